@@ -1,0 +1,79 @@
+-- M6 to M8 of the paper, as planning answers them. Assumes nothing.
+use Prim.Native.Nat.{ℕ, _*_}
+use mathlib.Core.Path.{refl}
+use lib.ListN.{replicate}
+use Rattle.lists.specs.Examples.{Example, example, Holds}
+use Rattle.grid.specs.Mesh.{Mesh}
+use Rattle.grid.specs.Examples.{M, M7-turned, M7-twice, M8-large}
+use Rattle.function.specs.Elements.{dim}
+use Rattle.function.specs.Examples.{element}
+use Rattle.integrands.specs.declared.Term.the-variants.{Bare}
+use Rattle.integrands.specs.Examples.{opened-integrands}
+use Rattle.cell_pairs.specs.Examples.{opened-cell-pairs}
+use Rattle.boundary_assemblers.specs.Planning.{Planning, Lists, batchRight, lengthsRight, planRefusal, planOf, plan, plannedNumber, writtenLists, planLists}
+
+-- opens the definitions of this crate and of those below it
+unfoldable pub opened-boundary-assemblers : Unit {0}
+unfolding opened-cell-pairs opened-integrands batchRight lengthsRight planRefusal planOf plan writtenLists planLists
+opened-boundary-assemblers = tt
+
+-- planned with one bare term of kind 0, both elements a = 1
+abbrev pub vertexDofs : Mesh → ℕ → Planning
+vertexDofs m B =
+    record { mesh = m; test = element 1 0 0; trial = element 1 0 0; batch = B; integrand = record { terms = 1; first = Bare 0; second = Bare 0 } }
+
+-- lists of the right lengths
+abbrev pub listsFor : Planning → Lists
+listsFor x =
+    let C = x .mesh .cells in
+    record {
+      testDofs = replicate (C * dim (x .test)) 0;
+      trialDofs = replicate (C * dim (x .trial)) 0;
+      testColours = replicate C 0;
+      trialColours = replicate C 0;
+      testOwners = replicate (3 * (C * dim (x .test))) 0;
+      trialOwners = replicate (3 * (C * dim (x .trial))) 0;
+      work = replicate (3 * (C * C)) 0;
+    }
+
+-- the paper's number of what planning answers
+abbrev number : Planning → ℕ
+number x = plannedNumber (plan x (listsFor x))
+
+-- M is accepted
+abbrev pub M-planned : Example
+M-planned = example (number (vertexDofs M 2)) 0
+
+pub M-planned-holds : Holds M-planned
+unfolding opened-boundary-assemblers
+M-planned-holds = refl
+
+-- M7: cells (0,1,2), (1,2,0): 7. Cells (0,1,2) twice are accepted
+abbrev pub M7-refused : Example
+M7-refused = example (number (vertexDofs M7-turned 1)) 7
+
+pub M7-refused-holds : Holds M7-refused
+unfolding opened-boundary-assemblers
+M7-refused-holds = refl
+
+abbrev pub M7-planned : Example
+M7-planned = example (number (vertexDofs M7-twice 1)) 0
+
+pub M7-planned-holds : Holds M7-planned
+unfolding opened-boundary-assemblers
+M7-planned-holds = refl
+
+-- M8: M planned with batch 0: 5. C = 2,049: 1
+abbrev pub M8-batch : Example
+M8-batch = example (number (vertexDofs M 0)) 5
+
+pub M8-batch-holds : Holds M8-batch
+unfolding opened-boundary-assemblers
+M8-batch-holds = refl
+
+abbrev pub M8-cells : Example
+M8-cells = example (number (vertexDofs M8-large 1)) 1
+
+pub M8-cells-holds : Holds M8-cells
+unfolding opened-boundary-assemblers
+M8-cells-holds = refl

@@ -1,0 +1,135 @@
+-- Planning: checks 1 to 8 in this order, what it answers, and what it leaves in the lists that it is lent. Assumes nothing.
+use Prim.Native.Nat.{ℕ, zero, suc, _*_}
+use mathlib.Core.Bool.{Bool}
+use mathlib.Core.List.{List, [], _∷_, _++_}
+use lib.ListN.{length, drop}
+use lib.Dec.{eqb}
+use Rattle.lists.specs.Bool.{_and_}
+use Rattle.lists.specs.Refusals.{Check, check, refusal}
+use Rattle.grid.specs.Mesh.{Mesh, within, meshChecks}
+use Rattle.function.specs.declared.Element.{Element}
+use Rattle.function.specs.Elements.{dim, dimsRight}
+use Rattle.function.specs.Numbering.{Space, dofList, dofCount, ownerList}
+use Rattle.function.specs.Colours.{colourList}
+use Rattle.integrands.specs.declared.Integrand.{Integrand}
+use Rattle.integrands.specs.Terms.{integrandRight}
+use Rattle.cell_pairs.specs.Patterns.{patternsRight}
+use Rattle.cell_pairs.specs.WorkList.{Rec, workList, flat, sharingPairs, distantPairs}
+use Rattle.boundary_assemblers.specs.declared.Plan.{Plan}
+use Rattle.boundary_assemblers.specs.declared.Planned.{Planned}
+use Rattle.boundary_assemblers.specs.declared.Planned.the-variants.{Ready, Refused}
+
+-- What planning is given
+pub record Planning : Type 0 where
+  pub mesh : Mesh
+  pub test : Element
+  pub trial : Element
+  pub batch : ℕ
+  pub integrand : Integrand
+
+-- The lists that it is lent: each element has its own DOF, colour and owner list
+pub record Lists : Type 0 where
+  pub testDofs : List ℕ
+  pub trialDofs : List ℕ
+  pub testColours : List ℕ
+  pub trialColours : List ℕ
+  pub testOwners : List ℕ
+  pub trialOwners : List ℕ
+  pub work : List ℕ
+
+-- an element on the mesh
+abbrev pub spaceOn : Mesh → Element → Space
+spaceOn m e = record { vertices = m .cellVertices; edges = m .cellEdges; element = e }
+
+abbrev pub testSpace : Planning → Space
+testSpace x = spaceOn (x .mesh) (x .test)
+
+abbrev pub trialSpace : Planning → Space
+trialSpace x = spaceOn (x .mesh) (x .trial)
+
+-- 5: batch is from 1 to 65,535
+unfoldable pub batchRight : Planning → Bool
+batchRight x = within 1 65535 (x .batch)
+
+-- 8: DOF lists are C·dim long, colours C, owner lists 3·C·dim, the work list 3·C·C
+unfoldable pub lengthsRight : Planning → Lists → Bool
+lengthsRight x l =
+    let C = x .mesh .cells in
+    eqb (length (l .testDofs)) (C * dim (x .test))
+    and eqb (length (l .trialDofs)) (C * dim (x .trial))
+    and eqb (length (l .testColours)) C
+    and eqb (length (l .trialColours)) C
+    and eqb (length (l .testOwners)) (3 * (C * dim (x .test)))
+    and eqb (length (l .trialOwners)) (3 * (C * dim (x .trial)))
+    and eqb (length (l .work)) (3 * (C * C))
+
+-- the checks that read no lent list: 1 to 7
+abbrev pub inputChecks : Planning → List Check
+inputChecks x =
+    meshChecks (x .mesh)
+    ++ check 4 (dimsRight (x .test) (x .trial))
+    ∷ check 5 (batchRight x)
+    ∷ check 6 (integrandRight (x .integrand))
+    ∷ check 7 (patternsRight (x .mesh .cells) (x .mesh .cellVertices))
+    ∷ []
+
+-- the first of the checks 1 to 8 that turns the call down, or 0
+unfoldable pub planRefusal : Planning → Lists → ℕ
+planRefusal x l = refusal (inputChecks x ++ check 8 (lengthsRight x l) ∷ [])
+
+-- the records of the work list
+abbrev pub workRecords : Planning → List Rec
+workRecords x = workList (x .mesh) (x .batch) (colourList (testSpace x) (x .mesh .cells)) (colourList (trialSpace x) (x .mesh .cells))
+
+-- S, N, the DOF counts (rows for test, columns for trial), sizes, elements and integrand
+unfoldable pub planOf : Planning → Plan
+planOf x =
+    record {
+      cells = x .mesh .cells;
+      vertices = x .mesh .vertices;
+      edges = x .mesh .edges;
+      touching = sharingPairs (x .mesh);
+      distant = distantPairs (x .mesh);
+      rows = dofCount (testSpace x) (x .mesh .cells);
+      columns = dofCount (trialSpace x) (x .mesh .cells);
+      test = x .test;
+      trial = x .trial;
+      integrand = x .integrand;
+    }
+
+-- 0 is no refusal
+abbrev pub planAnswer : ℕ → Plan → Planned
+planAnswer zero p = Ready p
+planAnswer (suc n) p = Refused (suc n)
+
+-- what planning hands back
+unfoldable pub plan : Planning → Lists → Planned
+plan x l = planAnswer (planRefusal x l) (planOf x)
+
+-- the paper's number of an answer: 0 where nothing is turned down
+abbrev pub plannedNumber : Planned → ℕ
+plannedNumber (Ready p) = 0
+plannedNumber (Refused n) = n
+
+-- what a list holds after a call with that refusal: a refusal writes nothing
+abbrev pub unlessRefused : {A : Type 0} → ℕ → A → A → A
+unlessRefused zero new old = new
+unlessRefused (suc n) new old = old
+
+-- what planning writes: the tail of an owner list past the last record stays
+unfoldable pub writtenLists : Planning → Lists → Lists
+writtenLists x l =
+    let C = x .mesh .cells in
+    record {
+      testDofs = dofList (testSpace x) C;
+      trialDofs = dofList (trialSpace x) C;
+      testColours = colourList (testSpace x) C;
+      trialColours = colourList (trialSpace x) C;
+      testOwners = ownerList (testSpace x) C ++ drop (3 * dofCount (testSpace x) C) (l .testOwners);
+      trialOwners = ownerList (trialSpace x) C ++ drop (3 * dofCount (trialSpace x) C) (l .trialOwners);
+      work = flat (workRecords x);
+    }
+
+-- the lists after the call
+unfoldable pub planLists : Planning → Lists → Lists
+planLists x l = unlessRefused (planRefusal x l) (writtenLists x l) l

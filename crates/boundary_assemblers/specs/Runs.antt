@@ -1,0 +1,256 @@
+-- The run: what each call answers, the run that it hands back, and what it leaves in the matrix or the entry lists, for any run, plan and arguments.
+-- Assumes nothing.
+use Prim.Native.Nat.{ℕ, zero, suc, _+_, _-_, _*_}
+use mathlib.Core.Bool.{Bool, true, false, not}
+use mathlib.Core.List.{List, [], _∷_, _++_, flatMap, map}
+use lib.ListN.{length, getD, take, drop, set}
+use lib.Seq.{sets}
+use lib.Dec.{leb, ltb, eqb}
+use lib.Ieee.{Float}
+use Rattle.lists.specs.Bool.{_and_, _or_}
+use Rattle.lists.specs.Range.{range}
+use Rattle.lists.specs.Fold.{upto}
+use Rattle.lists.specs.Refusals.{Check, check, refusal}
+use Rattle.grid.specs.Mesh.{within, allBelow}
+use Rattle.function.specs.Elements.{dim, dimsRight}
+use Rattle.integrands.specs.Floats.{_⊕_, _!_}
+use Rattle.integrands.specs.Terms.{integrandRight}
+use Rattle.cell_pair_assemblers.specs.Lent.{Touching, Distant, touchingChecks, distantChecks}
+use Rattle.cell_pair_assemblers.specs.Entries.{touchingEntry, distantEntry}
+use Rattle.boundary_assemblers.specs.declared.Plan.{Plan}
+use Rattle.boundary_assemblers.specs.declared.Run.{Run}
+use Rattle.boundary_assemblers.specs.declared.WorkRecord.{WorkRecord}
+use Rattle.boundary_assemblers.specs.declared.Looked.{Looked}
+use Rattle.boundary_assemblers.specs.declared.Looked.the-variants.{Found, Refused as LookRefused}
+use Rattle.boundary_assemblers.specs.declared.Added.{Added}
+use Rattle.boundary_assemblers.specs.declared.Added.the-variants.{Accepted, Refused as AddRefused}
+use Rattle.boundary_assemblers.specs.Planning.{unlessRefused}
+
+-- The plan that a call is lent: the two DOF lists and the work list
+pub record Lent : Type 0 where
+  pub testDofs : List ℕ
+  pub trialDofs : List ℕ
+  pub work : List ℕ
+
+-- The three entry lists that the entries call is lent
+pub record Entries : Type 0 where
+  pub rows : List ℕ
+  pub columns : List ℕ
+  pub values : List Float
+
+-- ---- beginning refuses nothing
+
+-- a dense run starts at 0
+unfoldable pub begin : Plan → Run
+begin p = record { plan = p; entries = false; position = 0 }
+
+-- an entries run starts at N
+unfoldable pub beginEntries : Plan → Run
+beginEntries p = record { plan = p; entries = true; position = p .distant }
+
+-- ---- what the checks read
+
+-- C·C
+abbrev pub pairs : Plan → ℕ
+pairs p = p .cells * p .cells
+
+abbrev pub testDim : Run → ℕ
+testDim r = dim (r .plan .test)
+
+abbrev pub trialDim : Run → ℕ
+trialDim r = dim (r .plan .trial)
+
+-- record p of a work list
+unfoldable pub recordAt : List ℕ → ℕ → WorkRecord
+recordAt work p = record { pattern = getD work (3 * p) 0; «test_cell» = getD work (3 * p + 1) 0; «trial_cell» = getD work (3 * p + 2) 0 }
+
+abbrev pub recordOf : Run → Lent → WorkRecord
+recordOf r l = recordAt (l .work) (r .position)
+
+-- the DOFs of a cell, dim of them, in a DOF list
+unfoldable pub cellDofs : List ℕ → ℕ → ℕ → List ℕ
+cellDofs dofs dim cell = take dim (drop (dim * cell) dofs)
+
+abbrev pub testDofsOf : Run → Lent → List ℕ
+testDofsOf r l = cellDofs (l .testDofs) (testDim r) (recordOf r l .«test_cell»)
+
+abbrev pub trialDofsOf : Run → Lent → List ℕ
+trialDofsOf r l = cellDofs (l .trialDofs) (trialDim r) (recordOf r l .«trial_cell»)
+
+-- a pattern of a touching record, and that of a distant one
+abbrev pub isTouching : ℕ → Bool
+isTouching pattern = leb pattern 27
+
+abbrev pub isDistant : ℕ → Bool
+isDistant pattern = eqb pattern 255
+
+-- ---- the checks
+
+-- 21: run numbers are in their ranges, p and N at most C·C, an entries run has p from N on, rows and columns are at most C·dim
+unfoldable pub runRight : Run → Bool
+runRight r =
+    within 1 2048 (r .plan .cells)
+    and within 3 4096 (r .plan .vertices)
+    and within 3 6144 (r .plan .edges)
+    and dimsRight (r .plan .test) (r .plan .trial)
+    and integrandRight (r .plan .integrand)
+    and leb (r .position) (pairs (r .plan))
+    and leb (r .plan .distant) (pairs (r .plan))
+    and (not (r .entries) or leb (r .plan .distant) (r .position))
+    and leb (r .plan .rows) (r .plan .cells * testDim r)
+    and leb (r .plan .columns) (r .plan .cells * trialDim r)
+
+-- 21: the plan has its length
+unfoldable pub lentRight : Run → Lent → Bool
+lentRight r l =
+    eqb (length (l .testDofs)) (r .plan .cells * testDim r)
+    and eqb (length (l .trialDofs)) (r .plan .cells * trialDim r)
+    and eqb (length (l .work)) (3 * pairs (r .plan))
+
+-- 21: the matrix is rows·columns long
+unfoldable pub matrixRight : Run → List Float → Bool
+matrixRight r M = eqb (length M) (r .plan .rows * r .plan .columns)
+
+-- 21: each entry list is (C·C − N)·test dim·trial dim long
+unfoldable pub entriesRight : Run → Entries → Bool
+entriesRight r e =
+    let n = (pairs (r .plan) - r .plan .distant) * testDim r * trialDim r in
+    eqb (length (e .rows)) n and eqb (length (e .columns)) n and eqb (length (e .values)) n
+
+-- 20 is p = C·C
+unfoldable pub pairLeft : Run → Bool
+pairLeft r = not (eqb (r .position) (pairs (r .plan)))
+
+-- 22: record p has a pattern of the list, cells below C, and each DOF of its two cells is below its size
+unfoldable pub recordRight : Run → Lent → Bool
+recordRight r l =
+    (isTouching (recordOf r l .pattern) or isDistant (recordOf r l .pattern))
+    and ltb (recordOf r l .«test_cell») (r .plan .cells)
+    and ltb (recordOf r l .«trial_cell») (r .plan .cells)
+    and allBelow (testDofsOf r l) (r .plan .rows)
+    and allBelow (trialDofsOf r l) (r .plan .columns)
+
+-- look checks 21, 20, 22
+unfoldable pub lookRefusal : Run → Lent → ℕ
+lookRefusal r l =
+    refusal (check 21 (runRight r and lentRight r l) ∷ check 20 (pairLeft r) ∷ check 22 (recordRight r l) ∷ [])
+
+-- adds and the entries call check 21, 20, 22, 23, then 9 to 11: what is lent beside the plan has its length, record and run are of the call's kind
+abbrev pub callChecks : Run → Lent → Bool → Bool → List Check → List Check
+callChecks r l sized kind numbers =
+    check 21 (runRight r and lentRight r l and sized) ∷ check 20 (pairLeft r) ∷ check 22 (recordRight r l) ∷ check 23 kind ∷ numbers
+
+unfoldable pub distantRefusal : Run → Lent → List Float → Distant → ℕ
+distantRefusal r l M a =
+    refusal
+    (callChecks r l (matrixRight r M) (isDistant (recordOf r l .pattern) and not (r .entries))
+    (distantChecks (r .plan .integrand) (testDim r) (trialDim r) a))
+
+unfoldable pub touchingRefusal : Run → Lent → List Float → Touching → ℕ
+touchingRefusal r l M a =
+    refusal
+    (callChecks r l (matrixRight r M) (isTouching (recordOf r l .pattern) and not (r .entries))
+    (touchingChecks (r .plan .integrand) (testDim r) (trialDim r) a))
+
+unfoldable pub entriesRefusal : Run → Lent → Entries → Touching → ℕ
+entriesRefusal r l e a =
+    refusal
+    (callChecks r l (entriesRight r e) (isTouching (recordOf r l .pattern) and r .entries)
+    (touchingChecks (r .plan .integrand) (testDim r) (trialDim r) a))
+
+-- ---- what is handed back
+
+-- p grows by 1
+unfoldable pub advance : Run → Run
+advance r = record { plan = r .plan; entries = r .entries; position = r .position + 1 }
+
+abbrev pub lookAnswer : ℕ → Run → WorkRecord → Looked
+lookAnswer zero r e = Found r e
+lookAnswer (suc n) r e = LookRefused r (suc n)
+
+abbrev pub addAnswer : ℕ → Run → Added
+addAnswer zero r = Accepted (advance r)
+addAnswer (suc n) r = AddRefused r (suc n)
+
+-- look answers record p
+unfoldable pub look : Run → Lent → Looked
+look r l = lookAnswer (lookRefusal r l) r (recordOf r l)
+
+unfoldable pub addDistant : Run → Lent → List Float → Distant → Added
+addDistant r l M a = addAnswer (distantRefusal r l M a) r
+
+unfoldable pub addTouching : Run → Lent → List Float → Touching → Added
+addTouching r l M a = addAnswer (touchingRefusal r l M a) r
+
+unfoldable pub addEntries : Run → Lent → Entries → Touching → Added
+addEntries r l e a = addAnswer (entriesRefusal r l e a) r
+
+-- the paper's number of an answer, 0 where nothing is turned down, and the run that it hands back
+abbrev pub lookedNumber : Looked → ℕ
+lookedNumber (Found r e) = 0
+lookedNumber (LookRefused r n) = n
+
+abbrev pub lookedRun : Looked → Run
+lookedRun (Found r e) = r
+lookedRun (LookRefused r n) = r
+
+abbrev pub addedNumber : Added → ℕ
+addedNumber (Accepted r) = 0
+addedNumber (AddRefused r n) = n
+
+abbrev pub addedRun : Added → Run
+addedRun (Accepted r) = r
+addedRun (AddRefused r n) = r
+
+-- ---- what is written
+
+-- M with v added at a place, by one rounded sum
+unfoldable pub addAt : List Float → ℕ → Float → List Float
+addAt M at v = set M at (M ! at ⊕ v)
+
+-- local entry (i,j) is added at row + rows·column, trial basis outer
+unfoldable pub addLocal : (ℕ → ℕ → Float) → ℕ → List ℕ → List ℕ → List Float → List Float
+addLocal entry rows testDofs trialDofs M =
+    upto
+    (λ (j : ℕ) (A : List Float).
+    upto (λ (i : ℕ) (B : List Float). addAt B (getD testDofs i 0 + rows * getD trialDofs j 0) (entry i j)) (length testDofs) A)
+    (length trialDofs)
+    M
+
+-- the matrix after an add
+unfoldable pub distantMatrix : Run → Lent → List Float → Distant → List Float
+distantMatrix r l M a =
+    unlessRefused (distantRefusal r l M a)
+    (addLocal (distantEntry (r .plan .integrand) a) (r .plan .rows) (testDofsOf r l) (trialDofsOf r l) M)
+    M
+
+unfoldable pub touchingMatrix : Run → Lent → List Float → Touching → List Float
+touchingMatrix r l M a =
+    unlessRefused (touchingRefusal r l M a)
+    (addLocal (touchingEntry (r .plan .integrand) a) (r .plan .rows) (testDofsOf r l) (trialDofsOf r l) M)
+    M
+
+-- rows, columns and values of a local matrix, in the same order: trial basis outer
+unfoldable pub localRows : List ℕ → List ℕ → List ℕ
+localRows testDofs trialDofs = flatMap (λ column. testDofs) trialDofs
+
+unfoldable pub localColumns : List ℕ → List ℕ → List ℕ
+localColumns testDofs trialDofs = flatMap (λ column. map (λ row. column) testDofs) trialDofs
+
+unfoldable pub localValues : (ℕ → ℕ → Float) → ℕ → ℕ → List Float
+localValues entry m n = flatMap (λ j. map (λ i. entry i j) (range m)) (range n)
+
+-- the entries call writes from place (p − N)·test dim·trial dim on
+abbrev pub entryPlace : Run → ℕ
+entryPlace r = (r .position - r .plan .distant) * testDim r * trialDim r
+
+-- the entry lists after the entries call
+unfoldable pub entriesWritten : Run → Lent → Entries → Touching → Entries
+entriesWritten r l e a =
+    unlessRefused (entriesRefusal r l e a)
+    (record {
+      rows = sets (e .rows) (entryPlace r) (localRows (testDofsOf r l) (trialDofsOf r l));
+      columns = sets (e .columns) (entryPlace r) (localColumns (testDofsOf r l) (trialDofsOf r l));
+      values = sets (e .values) (entryPlace r) (localValues (touchingEntry (r .plan .integrand) a) (testDim r) (trialDim r));
+    })
+    e

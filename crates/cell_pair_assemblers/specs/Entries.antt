@@ -1,0 +1,60 @@
+-- The entries of the local matrix. Each starts at 0, and each term is added by one rounded sum. Assumes nothing.
+use Prim.Native.Nat.{ℕ, _+_, _*_}
+use mathlib.Core.List.{List}
+use lib.Ieee.{Float}
+use Rattle.lists.specs.Fold.{upto}
+use Rattle.integrands.specs.declared.Integrand.{Integrand}
+use Rattle.integrands.specs.declared.Geometry.{Geometry}
+use Rattle.integrands.specs.Floats.{0·0, _⊕_, _⊗_, _!_}
+use Rattle.integrands.specs.Terms.{kernelWidth, tableRows}
+use Rattle.integrands.specs.Values.{geometryAt, pointValue}
+use Rattle.cell_pair_assemblers.specs.Lent.{Touching, Distant}
+
+-- table with D rows and P points: row i, point p, basis b at i + D(p + P·b)
+abbrev pub rowsAt : List Float → ℕ → ℕ → ℕ → ℕ → ℕ → Float
+rowsAt table D P p b i = table ! (i + D * (p + P * b))
+
+module _ (f : Integrand) where
+  -- the value at point q, for test basis i and trial basis j. Kernel value d stands at d + K·q
+  unfoldable pub touchingValue : Touching → ℕ → ℕ → ℕ → Float
+  touchingValue a i j q =
+      pointValue f
+      (λ d. a .kernel ! (d + kernelWidth f * q))
+      (rowsAt (a .testTable) (tableRows f) (a .points) q i)
+      (rowsAt (a .trialTable) (tableRows f) (a .points) q j)
+      (geometryAt (a .testGeometry) q)
+      (geometryAt (a .trialGeometry) q)
+
+  -- value·(weight·(test jdet·trial jdet))
+  unfoldable pub touchingTerm : Touching → ℕ → ℕ → ℕ → Float
+  touchingTerm a i j q =
+      touchingValue a i j q ⊗ (a .weights ! q ⊗ (geometryAt (a .testGeometry) q .jdet ⊗ geometryAt (a .trialGeometry) q .jdet))
+
+  -- touching: per point
+  unfoldable pub touchingEntry : Touching → ℕ → ℕ → Float
+  touchingEntry a i j = upto (λ (q : ℕ) (sum : Float). sum ⊕ touchingTerm a i j q) (a .points) 0·0
+
+  -- the value at test point t and trial point r. Kernel value d stands at d + K(t + T·r)
+  unfoldable pub distantValue : Distant → ℕ → ℕ → ℕ → ℕ → Float
+  distantValue a i j t r =
+      pointValue f
+      (λ d. a .kernel ! (d + kernelWidth f * (t + a .testPoints * r)))
+      (rowsAt (a .testTable) (tableRows f) (a .testPoints) t i)
+      (rowsAt (a .trialTable) (tableRows f) (a .trialPoints) r j)
+      (geometryAt (a .testGeometry) t)
+      (geometryAt (a .trialGeometry) r)
+
+  -- value·(trial weight·trial jdet)·(test weight·test jdet)
+  unfoldable pub distantTerm : Distant → ℕ → ℕ → ℕ → ℕ → Float
+  distantTerm a i j t r =
+      distantValue a i j t r
+      ⊗ (a .trialWeights ! r ⊗ geometryAt (a .trialGeometry) r .jdet)
+      ⊗ (a .testWeights ! t ⊗ geometryAt (a .testGeometry) t .jdet)
+
+  -- distant: per test point, then per trial point
+  unfoldable pub distantEntry : Distant → ℕ → ℕ → Float
+  distantEntry a i j =
+      upto
+      (λ (t : ℕ) (sum : Float). upto (λ (r : ℕ) (s : Float). s ⊕ distantTerm a i j t r) (a .trialPoints) sum)
+      (a .testPoints)
+      0·0

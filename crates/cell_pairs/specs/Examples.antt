@@ -1,0 +1,81 @@
+-- M4 to M7 of the paper, as records. (The text that `worklist` prints of them stands with the job.) Assumes nothing.
+use Prim.Native.Nat.{ℕ, _+_}
+use mathlib.Core.Path.{refl}
+use mathlib.Core.Bool.{false}
+use mathlib.Core.List.{List, [], _∷_}
+use Rattle.lists.specs.Examples.{Example, example, Holds}
+use Rattle.grid.specs.Mesh.{Mesh}
+use Rattle.grid.specs.Examples.{M, M7-turned, M7-twice}
+use Rattle.function.specs.Numbering.{Space}
+use Rattle.function.specs.Colours.{colourList}
+use Rattle.function.specs.Examples.{element, opened-function}
+use Rattle.cell_pairs.specs.Patterns.{matches, edgeOf, patternOf, pattern, smallestShared, patternsRight}
+use Rattle.cell_pairs.specs.WorkList.{Rec, rec, coloured, distantPair, distantBatch, distantColours, distantPart, touchingPair, touchingPart, workList, flat, sharingPairs, distantPairs}
+
+-- opens the definitions of this crate and of those below it
+unfoldable pub opened-cell-pairs : Unit {0}
+unfolding opened-function matches edgeOf patternOf pattern smallestShared patternsRight coloured distantPair distantBatch distantColours distantPart touchingPair touchingPart workList flat sharingPairs distantPairs
+opened-cell-pairs = tt
+
+-- the work list where both elements have a = 1
+abbrev records : Mesh → ℕ → List Rec
+records m B =
+    let space : Space = record { vertices = m .cellVertices; edges = m .cellEdges; element = element 1 0 0 } in
+    workList m B (colourList space (m .cells)) (colourList space (m .cells))
+
+-- M4: both elements a = 1, batch 2
+abbrev pub M4-records : Example
+M4-records =
+    example (records M 2)
+    (rec 255 2 0 ∷ rec 255 0 2 ∷ rec 255 2 1 ∷ rec 255 1 2 ∷ rec 11 0 1 ∷ rec 15 1 0 ∷ rec 27 0 0 ∷ rec 27 1 1 ∷ rec 27 2 2 ∷ [])
+
+pub M4-records-holds : Holds M4-records
+unfolding opened-cell-pairs
+M4-records-holds = refl
+
+-- M5: batch 1: the first two trade places
+abbrev pub M5-records : Example
+M5-records =
+    example (records M 1)
+    (rec 255 0 2 ∷ rec 255 2 0 ∷ rec 255 2 1 ∷ rec 255 1 2 ∷ rec 11 0 1 ∷ rec 15 1 0 ∷ rec 27 0 0 ∷ rec 27 1 1 ∷ rec 27 2 2 ∷ [])
+
+pub M5-records-holds : Holds M5-records
+unfolding opened-cell-pairs
+M5-records-holds = refl
+
+-- M6: N = 4, S = 5, 4 + 5 = 9
+abbrev pub M6-distant : Example
+M6-distant = example (distantPairs M) 4
+
+pub M6-distant-holds : Holds M6-distant
+unfolding opened-cell-pairs
+M6-distant-holds = refl
+
+abbrev pub M6-sharing : Example
+M6-sharing = example (sharingPairs M) 5
+
+pub M6-sharing-holds : Holds M6-sharing
+unfolding opened-cell-pairs
+M6-sharing-holds = refl
+
+abbrev pub M6-sum : Example
+M6-sum = example (distantPairs M + sharingPairs M) 9
+
+pub M6-sum-holds : Holds M6-sum
+unfolding opened-cell-pairs
+M6-sum-holds = refl
+
+-- M7: a = 1, batch 1. Turned, a pattern is outside the list; twice, four records of 27
+abbrev pub M7-pattern : Example
+M7-pattern = example (patternsRight 2 (M7-turned .cellVertices)) false
+
+pub M7-pattern-holds : Holds M7-pattern
+unfolding opened-cell-pairs
+M7-pattern-holds = refl
+
+abbrev pub M7-records : Example
+M7-records = example (records M7-twice 1) (rec 27 0 0 ∷ rec 27 0 1 ∷ rec 27 1 0 ∷ rec 27 1 1 ∷ [])
+
+pub M7-records-holds : Holds M7-records
+unfolding opened-cell-pairs
+M7-records-holds = refl

@@ -1,0 +1,1 @@
+// Pairs of cells: patterns of touching pairs, and the work list.

@@ -1,0 +1,72 @@
+-- M1 to M8 and F1 to F4 of the paper, one list, and one theorem: the definitions yield what the paper says of each. Each row stands, with its input and
+-- what the paper says, in `specs/Examples.antt` of the crate of its layer, and antt computes it there. Assumes nothing.
+use mathlib.Core.List.{List, [], _∷_}
+use Rattle.lists.specs.Examples.{Example, Agree, no-more, _and-also_}
+use Rattle.function.specs.Examples.{M1-colours, M1-dofs, M2-dofs, M3-colours, M2-owners, M2-count, M1-colours-holds, M1-dofs-holds, M2-dofs-holds, M3-colours-holds, M2-owners-holds, M2-count-holds}
+use Rattle.integrands.specs.Examples.{F3, F4, F3-holds, F4-holds}
+use Rattle.cell_pair_assemblers.specs.Examples.{F1, F2, F1-rounded, F2-rounded, F1-holds, F2-holds, F1-rounded-holds, F2-rounded-holds}
+use Rattle.cell_pairs.specs.Examples.{M4-records, M5-records, M6-distant, M6-sharing, M6-sum, M7-records, M4-records-holds, M5-records-holds, M6-distant-holds, M6-sharing-holds, M6-sum-holds, M7-records-holds}
+use Rattle.boundary_assemblers.specs.Examples.{M-planned, M7-refused, M7-planned, M8-batch, M8-cells, M-planned-holds, M7-refused-holds, M7-planned-holds, M8-batch-holds, M8-cells-holds}
+use Rattle.job.specs.Examples.{M4, M5, M7-turned-text, M7-twice-text, M8-batch-text, M4-short, M4-longer, job-large, M4-holds, M5-holds, M7-turned-text-holds, M7-twice-text-holds, M8-batch-text-holds, M4-short-holds, M4-longer-holds, job-large-holds}
+
+-- the paper's
+abbrev pub examples : List Example
+examples =
+    -- M1: colours, DOFs; M2: DOFs; M3: colours
+    M1-colours ∷ M1-dofs ∷ M2-dofs ∷ M3-colours
+    -- M4 and M5: what `worklist` prints
+    ∷ M4 ∷ M5
+    -- M6: N, S, and their sum
+    ∷ M6-distant ∷ M6-sharing ∷ M6-sum
+    -- M7: turned, planning answers 7; twice, four records of 27
+    ∷ M7-refused ∷ M7-records
+    -- M8: batch 0; C = 2,049
+    ∷ M8-batch ∷ M8-cells
+    ∷ F1 ∷ F2 ∷ F3 ∷ F4
+    ∷ []
+
+pub theorem : Agree examples
+theorem =
+    M1-colours-holds
+    and-also M1-dofs-holds
+    and-also M2-dofs-holds
+    and-also M3-colours-holds
+    and-also M4-holds
+    and-also M5-holds
+    and-also M6-distant-holds
+    and-also M6-sharing-holds
+    and-also M6-sum-holds
+    and-also M7-refused-holds
+    and-also M7-records-holds
+    and-also M8-batch-holds
+    and-also M8-cells-holds
+    and-also F1-holds
+    and-also F2-holds
+    and-also F3-holds
+    and-also F4-holds
+    and-also no-more
+
+-- and some beside them: M4 and M5 as records, M accepted, M7 and M8 as text, jobs cut short, longer and too large, owner records, a DOF count, and sums
+-- in which rounding shows
+abbrev pub more : List Example
+more =
+    M4-records ∷ M5-records ∷ M-planned ∷ M7-planned ∷ M7-turned-text ∷ M7-twice-text ∷ M8-batch-text
+    ∷ M4-short ∷ M4-longer ∷ job-large ∷ M2-owners ∷ M2-count ∷ F1-rounded ∷ F2-rounded ∷ []
+
+pub more-hold : Agree more
+more-hold =
+    M4-records-holds
+    and-also M5-records-holds
+    and-also M-planned-holds
+    and-also M7-planned-holds
+    and-also M7-turned-text-holds
+    and-also M7-twice-text-holds
+    and-also M8-batch-text-holds
+    and-also M4-short-holds
+    and-also M4-longer-holds
+    and-also job-large-holds
+    and-also M2-owners-holds
+    and-also M2-count-holds
+    and-also F1-rounded-holds
+    and-also F2-rounded-holds
+    and-also no-more

@@ -1,0 +1,65 @@
+-- The mesh that planning is handed, and checks 1 to 3 of it. Assumes nothing.
+use Prim.Native.Nat.{ℕ, _*_, _/_, _%_}
+use mathlib.Core.Bool.{Bool, not}
+use mathlib.Core.List.{List, [], _∷_}
+use lib.ListN.{length, getD}
+use lib.Dec.{leb, ltb, eqb}
+use Rattle.lists.specs.Bool.{_and_, _or_, iff}
+use Rattle.lists.specs.Bounded.{all}
+use Rattle.lists.specs.Refusals.{Check, check}
+use Rattle.grid.specs.Cells.{entity, firstEnd, secondEnd, sameTwo}
+
+-- C cells, V vertices and E edges; per cell three vertex numbers and three edge numbers, one cell after the other
+pub record Mesh : Type 0 where
+  pub cells : ℕ
+  pub vertices : ℕ
+  pub edges : ℕ
+  pub cellVertices : List ℕ
+  pub cellEdges : List ℕ
+
+-- low ≤ x ≤ high
+abbrev pub within : ℕ → ℕ → ℕ → Bool
+within low high x = leb low x and leb x high
+
+-- each number of the list is below the bound
+unfoldable pub allBelow : List ℕ → ℕ → Bool
+allBelow l bound = all (length l) (λ k. ltb (getD l k 0) bound)
+
+-- no vertex stands twice in cell i
+unfoldable pub distinct : List ℕ → ℕ → Bool
+distinct vs i = not (eqb (entity vs i 0) (entity vs i 1) or eqb (entity vs i 0) (entity vs i 2) or eqb (entity vs i 1) (entity vs i 2))
+
+-- the two vertices that edge place k joins: place k of the edge list is local edge k % 3 of cell k / 3
+abbrev pub firstVertex : List ℕ → ℕ → ℕ
+firstVertex vs k = entity vs (k / 3) (firstEnd (k % 3))
+
+abbrev pub secondVertex : List ℕ → ℕ → ℕ
+secondVertex vs k = entity vs (k / 3) (secondEnd (k % 3))
+
+-- edge places k and l join the same two vertices
+unfoldable pub sameVertices : List ℕ → ℕ → ℕ → Bool
+sameVertices vs k l = sameTwo (firstVertex vs k) (secondVertex vs k) (firstVertex vs l) (secondVertex vs l)
+
+-- they have the same number exactly when they join the same two vertices
+unfoldable pub placesAgree : List ℕ → List ℕ → ℕ → ℕ → Bool
+placesAgree vs es k l = iff (eqb (getD es k 0) (getD es l 0)) (sameVertices vs k l)
+
+-- the edge rule: so do any two edge places
+unfoldable pub edgeRule : List ℕ → List ℕ → Bool
+edgeRule vs es = all (length es) (λ k. all (length es) (λ l. placesAgree vs es k l))
+
+-- 1: C is in its range, and the vertex list is 3C long
+unfoldable pub cellsRight : Mesh → Bool
+cellsRight m = within 1 2048 (m .cells) and eqb (length (m .cellVertices)) (3 * m .cells)
+
+-- 2: V is in its range, each vertex number is below V, and none stands twice in one cell
+unfoldable pub verticesRight : Mesh → Bool
+verticesRight m = within 3 4096 (m .vertices) and allBelow (m .cellVertices) (m .vertices) and all (m .cells) (λ i. distinct (m .cellVertices) i)
+
+-- 3: E is in its range, the edge list is 3C long, each edge number is below E, and the edge rule holds
+unfoldable pub edgesRight : Mesh → Bool
+edgesRight m =
+    within 3 6144 (m .edges) and eqb (length (m .cellEdges)) (3 * m .cells) and allBelow (m .cellEdges) (m .edges) and edgeRule (m .cellVertices) (m .cellEdges)
+
+abbrev pub meshChecks : Mesh → List Check
+meshChecks m = check 1 (cellsRight m) ∷ check 2 (verticesRight m) ∷ check 3 (edgesRight m) ∷ []

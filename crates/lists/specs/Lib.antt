@@ -1,0 +1,12 @@
+-- Tests over numbers (`Bool`, `Bounded`), comprehensions (`Range`), sums and counts (`Total`), folds (`Fold`), a list written into a list (`Stores`,
+-- `Writes`), places in flat lists (`Places`), refusals (`Refusals`), examples (`Examples`).
+pub mod Bool
+pub mod Bounded
+pub mod Range
+pub mod Total
+pub mod Fold
+pub mod Stores
+pub mod Writes
+pub mod Places
+pub mod Refusals
+pub mod Examples
