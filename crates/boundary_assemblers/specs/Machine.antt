@@ -16,7 +16,7 @@ use Rattle.cell_pair_assemblers.specs.Lent.{Touching, Distant, touchingChecks, 
 use Rattle.cell_pair_assemblers.specs.Entries.{touchingEntry, distantEntry}
 use Rattle.cell_pairs.specs.WorkList.{Rec, rec}
 use Rattle.boundary_assemblers.specs.Planning.{Planning, testSpace, trialSpace, workRecords, unlessRefused}
-use Rattle.boundary_assemblers.specs.Runs.{cellDofs, addLocal}
+use Rattle.boundary_assemblers.specs.Runs.{cellDofs, addLocal, Answer, found, accepted, refused}
 
 pub record Machine : Type 0 where
   -- the records in work order, and how many there are: C·C
@@ -57,12 +57,6 @@ pub data Call : Type 0 where
   addsDistant : Distant → Call
   addsTouching : Touching → Call
 
--- What a call is answered: a look's record, acceptance, or a refusal's number
-pub data Answer : Type 0 where
-  found : Rec → Answer
-  accepted : Answer
-  refused : ℕ → Answer
-
 -- The position, the matrix, and the answers so far
 pub record State : Type 0 where
   pub position : ℕ
@@ -82,8 +76,8 @@ module _ (m : Machine) where
   abbrev pub pairNext : State → Bool
   pairNext s = not (eqb (s .position) (m .pairs))
 
-  -- an add's checks: 21 reads the length of M, 20 the position, 23 the kind of pair p; then 9 to 11. (What else 21 and 22 read are numbers of the run
-  -- and of the plan, which the machine does not have.)
+  -- an add's checks: 21 reads the length of M, 20 the position, 23 the kind of pair p; then 9 to 11. (What else 21 and 22 read, the machine's own
+  -- numbers, records and DOFs always pass.)
   abbrev pub machineChecks : State → Bool → List Check → List Check
   machineChecks s kind numbers =
       check 21 (eqb (length (s .matrix)) (m .rows * m .columns)) ∷ check 20 (pairNext s) ∷ check 23 kind ∷ numbers

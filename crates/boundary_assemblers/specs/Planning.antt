@@ -2,7 +2,7 @@
 use Prim.Native.Nat.{ℕ, zero, suc, _*_}
 use mathlib.Core.Bool.{Bool}
 use mathlib.Core.List.{List, [], _∷_, _++_}
-use lib.ListN.{length, drop}
+use lib.ListN.{length, drop, replicate}
 use lib.Dec.{eqb}
 use Rattle.lists.specs.Bool.{_and_}
 use Rattle.lists.specs.Refusals.{Check, check, refusal}
@@ -15,7 +15,7 @@ use Rattle.integrands.specs.declared.Integrand.{Integrand}
 use Rattle.integrands.specs.Terms.{integrandRight}
 use Rattle.cell_pairs.specs.Patterns.{patternsRight}
 use Rattle.cell_pairs.specs.WorkList.{Rec, workList, flat, sharingPairs, distantPairs}
-use Rattle.boundary_assemblers.specs.declared.Plan.{Plan}
+use Rattle.boundary_assemblers.specs.declared.PlanNumbers.{PlanNumbers}
 use Rattle.boundary_assemblers.specs.declared.Planned.{Planned}
 use Rattle.boundary_assemblers.specs.declared.Planned.the-variants.{Ready, Refused}
 
@@ -27,7 +27,7 @@ pub record Planning : Type 0 where
   pub batch : ℕ
   pub integrand : Integrand
 
--- The lists that it is lent: each element has its own DOF, colour and owner list
+-- The lists that it is lent to write: each element has its own DOF, colour and owner list
 pub record Lists : Type 0 where
   pub testDofs : List ℕ
   pub trialDofs : List ℕ
@@ -36,6 +36,20 @@ pub record Lists : Type 0 where
   pub testOwners : List ℕ
   pub trialOwners : List ℕ
   pub work : List ℕ
+
+-- lists of the right lengths
+abbrev pub listsFor : Planning → Lists
+listsFor x =
+    let C = x .mesh .cells in
+    record {
+      testDofs = replicate (C * dim (x .test)) 0;
+      trialDofs = replicate (C * dim (x .trial)) 0;
+      testColours = replicate C 0;
+      trialColours = replicate C 0;
+      testOwners = replicate (3 * (C * dim (x .test))) 0;
+      trialOwners = replicate (3 * (C * dim (x .trial))) 0;
+      work = replicate (3 * (C * C)) 0;
+    }
 
 -- an element on the mesh
 abbrev pub spaceOn : Mesh → Element → Space
@@ -63,27 +77,28 @@ lengthsRight x l =
     and eqb (length (l .trialOwners)) (3 * (C * dim (x .trial)))
     and eqb (length (l .work)) (3 * (C * C))
 
--- the checks that read no lent list: 1 to 7
-abbrev pub inputChecks : Planning → List Check
-inputChecks x =
+-- planning checks 1 to 8 in this order
+abbrev pub planChecks : Planning → Lists → List Check
+planChecks x l =
     meshChecks (x .mesh)
     ++ check 4 (dimsRight (x .test) (x .trial))
     ∷ check 5 (batchRight x)
     ∷ check 6 (integrandRight (x .integrand))
     ∷ check 7 (patternsRight (x .mesh .cells) (x .mesh .cellVertices))
+    ∷ check 8 (lengthsRight x l)
     ∷ []
 
--- the first of the checks 1 to 8 that turns the call down, or 0
+-- the first that turns the call down, or 0
 unfoldable pub planRefusal : Planning → Lists → ℕ
-planRefusal x l = refusal (inputChecks x ++ check 8 (lengthsRight x l) ∷ [])
+planRefusal x l = refusal (planChecks x l)
 
 -- the records of the work list
 abbrev pub workRecords : Planning → List Rec
 workRecords x = workList (x .mesh) (x .batch) (colourList (testSpace x) (x .mesh .cells)) (colourList (trialSpace x) (x .mesh .cells))
 
 -- S, N, the DOF counts (rows for test, columns for trial), sizes, elements and integrand
-unfoldable pub planOf : Planning → Plan
-planOf x =
+unfoldable pub planNumbers : Planning → PlanNumbers
+planNumbers x =
     record {
       cells = x .mesh .cells;
       vertices = x .mesh .vertices;
@@ -98,13 +113,13 @@ planOf x =
     }
 
 -- 0 is no refusal
-abbrev pub planAnswer : ℕ → Plan → Planned
+abbrev pub planAnswer : ℕ → PlanNumbers → Planned
 planAnswer zero p = Ready p
 planAnswer (suc n) p = Refused (suc n)
 
 -- what planning hands back
 unfoldable pub plan : Planning → Lists → Planned
-plan x l = planAnswer (planRefusal x l) (planOf x)
+plan x l = planAnswer (planRefusal x l) (planNumbers x)
 
 -- the paper's number of an answer: 0 where nothing is turned down
 abbrev pub plannedNumber : Planned → ℕ

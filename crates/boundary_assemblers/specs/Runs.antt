@@ -2,7 +2,7 @@
 -- Assumes nothing.
 use Prim.Native.Nat.{ℕ, zero, suc, _+_, _-_, _*_}
 use mathlib.Core.Bool.{Bool, true, false, not}
-use mathlib.Core.List.{List, [], _∷_, _++_, flatMap, map}
+use mathlib.Core.List.{List, [], _∷_, flatMap, map}
 use lib.ListN.{length, getD, take, drop, set}
 use lib.Seq.{sets}
 use lib.Dec.{leb, ltb, eqb}
@@ -17,7 +17,8 @@ use Rattle.integrands.specs.Floats.{_⊕_, _!_}
 use Rattle.integrands.specs.Terms.{integrandRight}
 use Rattle.cell_pair_assemblers.specs.Lent.{Touching, Distant, touchingChecks, distantChecks}
 use Rattle.cell_pair_assemblers.specs.Entries.{touchingEntry, distantEntry}
-use Rattle.boundary_assemblers.specs.declared.Plan.{Plan}
+use Rattle.cell_pairs.specs.WorkList.{Rec, rec}
+use Rattle.boundary_assemblers.specs.declared.PlanNumbers.{PlanNumbers}
 use Rattle.boundary_assemblers.specs.declared.Run.{Run}
 use Rattle.boundary_assemblers.specs.declared.WorkRecord.{WorkRecord}
 use Rattle.boundary_assemblers.specs.declared.Looked.{Looked}
@@ -27,13 +28,13 @@ use Rattle.boundary_assemblers.specs.declared.Added.the-variants.{Accept
 use Rattle.boundary_assemblers.specs.Planning.{unlessRefused}
 
 -- The plan that a call is lent: the two DOF lists and the work list
-pub record Lent : Type 0 where
+pub record Plan : Type 0 where
   pub testDofs : List ℕ
   pub trialDofs : List ℕ
   pub work : List ℕ
 
 -- The three entry lists that the entries call is lent
-pub record Entries : Type 0 where
+pub record EntryLists : Type 0 where
   pub rows : List ℕ
   pub columns : List ℕ
   pub values : List Float
@@ -41,40 +42,40 @@ pub record Entries : Type 0 where
 -- ---- beginning refuses nothing
 
 -- a dense run starts at 0
-unfoldable pub begin : Plan → Run
-begin p = record { plan = p; entries = false; position = 0 }
+unfoldable pub begin : PlanNumbers → Run
+begin p = record { numbers = p; entries = false; position = 0 }
 
 -- an entries run starts at N
-unfoldable pub beginEntries : Plan → Run
-beginEntries p = record { plan = p; entries = true; position = p .distant }
+unfoldable pub beginEntries : PlanNumbers → Run
+beginEntries p = record { numbers = p; entries = true; position = p .distant }
 
 -- ---- what the checks read
 
 -- C·C
-abbrev pub pairs : Plan → ℕ
+abbrev pub pairs : PlanNumbers → ℕ
 pairs p = p .cells * p .cells
 
 abbrev pub testDim : Run → ℕ
-testDim r = dim (r .plan .test)
+testDim r = dim (r .numbers .test)
 
 abbrev pub trialDim : Run → ℕ
-trialDim r = dim (r .plan .trial)
+trialDim r = dim (r .numbers .trial)
 
 -- record p of a work list
 unfoldable pub recordAt : List ℕ → ℕ → WorkRecord
 recordAt work p = record { pattern = getD work (3 * p) 0; «test_cell» = getD work (3 * p + 1) 0; «trial_cell» = getD work (3 * p + 2) 0 }
 
-abbrev pub recordOf : Run → Lent → WorkRecord
+abbrev pub recordOf : Run → Plan → WorkRecord
 recordOf r l = recordAt (l .work) (r .position)
 
 -- the DOFs of a cell, dim of them, in a DOF list
 unfoldable pub cellDofs : List ℕ → ℕ → ℕ → List ℕ
 cellDofs dofs dim cell = take dim (drop (dim * cell) dofs)
 
-abbrev pub testDofsOf : Run → Lent → List ℕ
+abbrev pub testDofsOf : Run → Plan → List ℕ
 testDofsOf r l = cellDofs (l .testDofs) (testDim r) (recordOf r l .«test_cell»)
 
-abbrev pub trialDofsOf : Run → Lent → List ℕ
+abbrev pub trialDofsOf : Run → Plan → List ℕ
 trialDofsOf r l = cellDofs (l .trialDofs) (trialDim r) (recordOf r l .«trial_cell»)
 
 -- a pattern of a touching record, and that of a distant one
@@ -89,80 +90,80 @@ isDistant pattern = eqb pattern 255
 -- 21: run numbers are in their ranges, p and N at most C·C, an entries run has p from N on, rows and columns are at most C·dim
 unfoldable pub runRight : Run → Bool
 runRight r =
-    within 1 2048 (r .plan .cells)
-    and within 3 4096 (r .plan .vertices)
-    and within 3 6144 (r .plan .edges)
-    and dimsRight (r .plan .test) (r .plan .trial)
-    and integrandRight (r .plan .integrand)
-    and leb (r .position) (pairs (r .plan))
-    and leb (r .plan .distant) (pairs (r .plan))
-    and (not (r .entries) or leb (r .plan .distant) (r .position))
-    and leb (r .plan .rows) (r .plan .cells * testDim r)
-    and leb (r .plan .columns) (r .plan .cells * trialDim r)
+    within 1 2048 (r .numbers .cells)
+    and within 3 4096 (r .numbers .vertices)
+    and within 3 6144 (r .numbers .edges)
+    and dimsRight (r .numbers .test) (r .numbers .trial)
+    and integrandRight (r .numbers .integrand)
+    and leb (r .position) (pairs (r .numbers))
+    and leb (r .numbers .distant) (pairs (r .numbers))
+    and (not (r .entries) or leb (r .numbers .distant) (r .position))
+    and leb (r .numbers .rows) (r .numbers .cells * testDim r)
+    and leb (r .numbers .columns) (r .numbers .cells * trialDim r)
 
 -- 21: the plan has its length
-unfoldable pub lentRight : Run → Lent → Bool
-lentRight r l =
-    eqb (length (l .testDofs)) (r .plan .cells * testDim r)
-    and eqb (length (l .trialDofs)) (r .plan .cells * trialDim r)
-    and eqb (length (l .work)) (3 * pairs (r .plan))
+unfoldable pub planRight : Run → Plan → Bool
+planRight r l =
+    eqb (length (l .testDofs)) (r .numbers .cells * testDim r)
+    and eqb (length (l .trialDofs)) (r .numbers .cells * trialDim r)
+    and eqb (length (l .work)) (3 * pairs (r .numbers))
 
 -- 21: the matrix is rows·columns long
 unfoldable pub matrixRight : Run → List Float → Bool
-matrixRight r M = eqb (length M) (r .plan .rows * r .plan .columns)
+matrixRight r M = eqb (length M) (r .numbers .rows * r .numbers .columns)
 
 -- 21: each entry list is (C·C − N)·test dim·trial dim long
-unfoldable pub entriesRight : Run → Entries → Bool
+unfoldable pub entriesRight : Run → EntryLists → Bool
 entriesRight r e =
-    let n = (pairs (r .plan) - r .plan .distant) * testDim r * trialDim r in
+    let n = (pairs (r .numbers) - r .numbers .distant) * testDim r * trialDim r in
     eqb (length (e .rows)) n and eqb (length (e .columns)) n and eqb (length (e .values)) n
 
 -- 20 is p = C·C
 unfoldable pub pairLeft : Run → Bool
-pairLeft r = not (eqb (r .position) (pairs (r .plan)))
+pairLeft r = not (eqb (r .position) (pairs (r .numbers)))
 
 -- 22: record p has a pattern of the list, cells below C, and each DOF of its two cells is below its size
-unfoldable pub recordRight : Run → Lent → Bool
+unfoldable pub recordRight : Run → Plan → Bool
 recordRight r l =
     (isTouching (recordOf r l .pattern) or isDistant (recordOf r l .pattern))
-    and ltb (recordOf r l .«test_cell») (r .plan .cells)
-    and ltb (recordOf r l .«trial_cell») (r .plan .cells)
-    and allBelow (testDofsOf r l) (r .plan .rows)
-    and allBelow (trialDofsOf r l) (r .plan .columns)
+    and ltb (recordOf r l .«test_cell») (r .numbers .cells)
+    and ltb (recordOf r l .«trial_cell») (r .numbers .cells)
+    and allBelow (testDofsOf r l) (r .numbers .rows)
+    and allBelow (trialDofsOf r l) (r .numbers .columns)
 
 -- look checks 21, 20, 22
-unfoldable pub lookRefusal : Run → Lent → ℕ
+unfoldable pub lookRefusal : Run → Plan → ℕ
 lookRefusal r l =
-    refusal (check 21 (runRight r and lentRight r l) ∷ check 20 (pairLeft r) ∷ check 22 (recordRight r l) ∷ [])
+    refusal (check 21 (runRight r and planRight r l) ∷ check 20 (pairLeft r) ∷ check 22 (recordRight r l) ∷ [])
 
 -- adds and the entries call check 21, 20, 22, 23, then 9 to 11: what is lent beside the plan has its length, record and run are of the call's kind
-abbrev pub callChecks : Run → Lent → Bool → Bool → List Check → List Check
+abbrev pub callChecks : Run → Plan → Bool → Bool → List Check → List Check
 callChecks r l sized kind numbers =
-    check 21 (runRight r and lentRight r l and sized) ∷ check 20 (pairLeft r) ∷ check 22 (recordRight r l) ∷ check 23 kind ∷ numbers
+    check 21 (runRight r and planRight r l and sized) ∷ check 20 (pairLeft r) ∷ check 22 (recordRight r l) ∷ check 23 kind ∷ numbers
 
-unfoldable pub distantRefusal : Run → Lent → List Float → Distant → ℕ
+unfoldable pub distantRefusal : Run → Plan → List Float → Distant → ℕ
 distantRefusal r l M a =
     refusal
     (callChecks r l (matrixRight r M) (isDistant (recordOf r l .pattern) and not (r .entries))
-    (distantChecks (r .plan .integrand) (testDim r) (trialDim r) a))
+    (distantChecks (r .numbers .integrand) (testDim r) (trialDim r) a))
 
-unfoldable pub touchingRefusal : Run → Lent → List Float → Touching → ℕ
+unfoldable pub touchingRefusal : Run → Plan → List Float → Touching → ℕ
 touchingRefusal r l M a =
     refusal
     (callChecks r l (matrixRight r M) (isTouching (recordOf r l .pattern) and not (r .entries))
-    (touchingChecks (r .plan .integrand) (testDim r) (trialDim r) a))
+    (touchingChecks (r .numbers .integrand) (testDim r) (trialDim r) a))
 
-unfoldable pub entriesRefusal : Run → Lent → Entries → Touching → ℕ
+unfoldable pub entriesRefusal : Run → Plan → EntryLists → Touching → ℕ
 entriesRefusal r l e a =
     refusal
     (callChecks r l (entriesRight r e) (isTouching (recordOf r l .pattern) and r .entries)
-    (touchingChecks (r .plan .integrand) (testDim r) (trialDim r) a))
+    (touchingChecks (r .numbers .integrand) (testDim r) (trialDim r) a))
 
 -- ---- what is handed back
 
 -- p grows by 1
 unfoldable pub advance : Run → Run
-advance r = record { plan = r .plan; entries = r .entries; position = r .position + 1 }
+advance r = record { numbers = r .numbers; entries = r .entries; position = r .position + 1 }
 
 abbrev pub lookAnswer : ℕ → Run → WorkRecord → Looked
 lookAnswer zero r e = Found r e
@@ -173,30 +174,36 @@ addAnswer zero r = Accepted (advance r)
 addAnswer (suc n) r = AddRefused r (suc n)
 
 -- look answers record p
-unfoldable pub look : Run → Lent → Looked
+unfoldable pub look : Run → Plan → Looked
 look r l = lookAnswer (lookRefusal r l) r (recordOf r l)
 
-unfoldable pub addDistant : Run → Lent → List Float → Distant → Added
+unfoldable pub addDistant : Run → Plan → List Float → Distant → Added
 addDistant r l M a = addAnswer (distantRefusal r l M a) r
 
-unfoldable pub addTouching : Run → Lent → List Float → Touching → Added
+unfoldable pub addTouching : Run → Plan → List Float → Touching → Added
 addTouching r l M a = addAnswer (touchingRefusal r l M a) r
 
-unfoldable pub addEntries : Run → Lent → Entries → Touching → Added
+unfoldable pub addEntries : Run → Plan → EntryLists → Touching → Added
 addEntries r l e a = addAnswer (entriesRefusal r l e a) r
 
--- the paper's number of an answer, 0 where nothing is turned down, and the run that it hands back
-abbrev pub lookedNumber : Looked → ℕ
-lookedNumber (Found r e) = 0
-lookedNumber (LookRefused r n) = n
+-- What the paper calls the answer: a look's record, acceptance, or a refusal's number
+pub data Answer : Type 0 where
+  found : Rec → Answer
+  accepted : Answer
+  refused : ℕ → Answer
+
+-- for each case of the two enums: the paper's answer, and the run that is handed back
+abbrev pub lookedAnswer : Looked → Answer
+lookedAnswer (Found r e) = found (rec (e .pattern) (e .«test_cell») (e .«trial_cell»))
+lookedAnswer (LookRefused r n) = refused n
 
 abbrev pub lookedRun : Looked → Run
 lookedRun (Found r e) = r
 lookedRun (LookRefused r n) = r
 
-abbrev pub addedNumber : Added → ℕ
-addedNumber (Accepted r) = 0
-addedNumber (AddRefused r n) = n
+abbrev pub addedAnswer : Added → Answer
+addedAnswer (Accepted r) = accepted
+addedAnswer (AddRefused r n) = refused n
 
 abbrev pub addedRun : Added → Run
 addedRun (Accepted r) = r
@@ -218,16 +225,16 @@ addLocal entry rows testDofs trialDofs M =
     M
 
 -- the matrix after an add
-unfoldable pub distantMatrix : Run → Lent → List Float → Distant → List Float
+unfoldable pub distantMatrix : Run → Plan → List Float → Distant → List Float
 distantMatrix r l M a =
     unlessRefused (distantRefusal r l M a)
-    (addLocal (distantEntry (r .plan .integrand) a) (r .plan .rows) (testDofsOf r l) (trialDofsOf r l) M)
+    (addLocal (distantEntry (r .numbers .integrand) a) (r .numbers .rows) (testDofsOf r l) (trialDofsOf r l) M)
     M
 
-unfoldable pub touchingMatrix : Run → Lent → List Float → Touching → List Float
+unfoldable pub touchingMatrix : Run → Plan → List Float → Touching → List Float
 touchingMatrix r l M a =
     unlessRefused (touchingRefusal r l M a)
-    (addLocal (touchingEntry (r .plan .integrand) a) (r .plan .rows) (testDofsOf r l) (trialDofsOf r l) M)
+    (addLocal (touchingEntry (r .numbers .integrand) a) (r .numbers .rows) (testDofsOf r l) (trialDofsOf r l) M)
     M
 
 -- rows, columns and values of a local matrix, in the same order: trial basis outer
@@ -242,15 +249,15 @@ localValues entry m n = flatMap (λ j. map (λ i. entry i j) (range m)) (range n
 
 -- the entries call writes from place (p − N)·test dim·trial dim on
 abbrev pub entryPlace : Run → ℕ
-entryPlace r = (r .position - r .plan .distant) * testDim r * trialDim r
+entryPlace r = (r .position - r .numbers .distant) * testDim r * trialDim r
 
 -- the entry lists after the entries call
-unfoldable pub entriesWritten : Run → Lent → Entries → Touching → Entries
+unfoldable pub entriesWritten : Run → Plan → EntryLists → Touching → EntryLists
 entriesWritten r l e a =
     unlessRefused (entriesRefusal r l e a)
     (record {
       rows = sets (e .rows) (entryPlace r) (localRows (testDofsOf r l) (trialDofsOf r l));
       columns = sets (e .columns) (entryPlace r) (localColumns (testDofsOf r l) (trialDofsOf r l));
-      values = sets (e .values) (entryPlace r) (localValues (touchingEntry (r .plan .integrand) a) (testDim r) (trialDim r));
+      values = sets (e .values) (entryPlace r) (localValues (touchingEntry (r .numbers .integrand) a) (testDim r) (trialDim r));
     })
     e

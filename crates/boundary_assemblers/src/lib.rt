@@ -2,8 +2,9 @@
 use function::Element;
 use integrands::Integrand;
 
-// What planning hands back: the sizes C, V and E of the mesh, S and N, the DOF counts, and what it was given of elements and integrand.
-pub struct Plan {
+// The numbers that planning hands back: the sizes C, V and E of the mesh, S (touching pairs), N (distant pairs), the DOF counts (rows for test, columns
+// for trial), the elements and the integrand. (The plan itself is the two DOF lists and the work list, which are lent.)
+pub struct PlanNumbers {
     pub cells: u32,
     pub vertices: u32,
     pub edges: u32,
@@ -17,13 +18,13 @@ pub struct Plan {
 }
 
 pub enum Planned {
-    Ready(Plan),
+    Ready(PlanNumbers),
     Refused(u32),
 }
 
-// A run: the planning that it was begun from, whether it is an entries run, and its position p.
+// A run: the numbers of the planning that it was begun from, whether it is an entries run, and its position p.
 pub struct Run {
-    pub plan: Plan,
+    pub numbers: PlanNumbers,
     pub entries: bool,
     pub position: u32,
 }

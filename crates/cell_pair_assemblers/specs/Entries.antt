@@ -1,10 +1,9 @@
--- The entries of the local matrix. Each starts at 0, and each term is added by one rounded sum. Assumes nothing.
+-- The entries of the local matrix. Each starts at 0, and each summand is added by one rounded sum. Assumes nothing.
 use Prim.Native.Nat.{ℕ, _+_, _*_}
 use mathlib.Core.List.{List}
 use lib.Ieee.{Float}
 use Rattle.lists.specs.Fold.{upto}
 use Rattle.integrands.specs.declared.Integrand.{Integrand}
-use Rattle.integrands.specs.declared.Geometry.{Geometry}
 use Rattle.integrands.specs.Floats.{0·0, _⊕_, _⊗_, _!_}
 use Rattle.integrands.specs.Terms.{kernelWidth, tableRows}
 use Rattle.integrands.specs.Values.{geometryAt, pointValue}
@@ -26,13 +25,13 @@ module _ (f : Integrand) where
       (geometryAt (a .trialGeometry) q)
 
   -- value·(weight·(test jdet·trial jdet))
-  unfoldable pub touchingTerm : Touching → ℕ → ℕ → ℕ → Float
-  touchingTerm a i j q =
+  unfoldable pub touchingSummand : Touching → ℕ → ℕ → ℕ → Float
+  touchingSummand a i j q =
       touchingValue a i j q ⊗ (a .weights ! q ⊗ (geometryAt (a .testGeometry) q .jdet ⊗ geometryAt (a .trialGeometry) q .jdet))
 
   -- touching: per point
   unfoldable pub touchingEntry : Touching → ℕ → ℕ → Float
-  touchingEntry a i j = upto (λ (q : ℕ) (sum : Float). sum ⊕ touchingTerm a i j q) (a .points) 0·0
+  touchingEntry a i j = upto (λ (q : ℕ) (sum : Float). sum ⊕ touchingSummand a i j q) (a .points) 0·0
 
   -- the value at test point t and trial point r. Kernel value d stands at d + K(t + T·r)
   unfoldable pub distantValue : Distant → ℕ → ℕ → ℕ → ℕ → Float
@@ -45,8 +44,8 @@ module _ (f : Integrand) where
       (geometryAt (a .trialGeometry) r)
 
   -- value·(trial weight·trial jdet)·(test weight·test jdet)
-  unfoldable pub distantTerm : Distant → ℕ → ℕ → ℕ → ℕ → Float
-  distantTerm a i j t r =
+  unfoldable pub distantSummand : Distant → ℕ → ℕ → ℕ → ℕ → Float
+  distantSummand a i j t r =
       distantValue a i j t r
       ⊗ (a .trialWeights ! r ⊗ geometryAt (a .trialGeometry) r .jdet)
       ⊗ (a .testWeights ! t ⊗ geometryAt (a .testGeometry) t .jdet)
@@ -55,6 +54,6 @@ module _ (f : Integrand) where
   unfoldable pub distantEntry : Distant → ℕ → ℕ → Float
   distantEntry a i j =
       upto
-      (λ (t : ℕ) (sum : Float). upto (λ (r : ℕ) (s : Float). s ⊕ distantTerm a i j t r) (a .trialPoints) sum)
+      (λ (t : ℕ) (sum : Float). upto (λ (r : ℕ) (s : Float). s ⊕ distantSummand a i j t r) (a .trialPoints) sum)
       (a .testPoints)
       0·0

@@ -1,5 +1,5 @@
--- M4 to M7 of the paper, as records. (The text that `worklist` prints of them stands with the job.) Assumes nothing.
-use Prim.Native.Nat.{ℕ, _+_}
+-- M4, M5 and M7 of the paper, as records. (The text that `worklist` prints of them stands with the job.) Assumes nothing.
+use Prim.Native.Nat.{ℕ}
 use mathlib.Core.Path.{refl}
 use mathlib.Core.Bool.{false}
 use mathlib.Core.List.{List, [], _∷_}
@@ -42,28 +42,6 @@ M5-records =
 pub M5-records-holds : Holds M5-records
 unfolding opened-cell-pairs
 M5-records-holds = refl
-
--- M6: N = 4, S = 5, 4 + 5 = 9
-abbrev pub M6-distant : Example
-M6-distant = example (distantPairs M) 4
-
-pub M6-distant-holds : Holds M6-distant
-unfolding opened-cell-pairs
-M6-distant-holds = refl
-
-abbrev pub M6-sharing : Example
-M6-sharing = example (sharingPairs M) 5
-
-pub M6-sharing-holds : Holds M6-sharing
-unfolding opened-cell-pairs
-M6-sharing-holds = refl
-
-abbrev pub M6-sum : Example
-M6-sum = example (distantPairs M + sharingPairs M) 9
-
-pub M6-sum-holds : Holds M6-sum
-unfolding opened-cell-pairs
-M6-sum-holds = refl
 
 -- M7: a = 1, batch 1. Turned, a pattern is outside the list; twice, four records of 27
 abbrev pub M7-pattern : Example

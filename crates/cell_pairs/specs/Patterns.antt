@@ -22,12 +22,12 @@ matches vs i j =
 unfoldable pub edgeOf : ℕ → ℕ → ℕ
 edgeOf a b = least 3 (λ e. sameTwo (firstEnd e) (secondEnd e) a b)
 
--- a number that is no pattern
+-- a number that is no pattern: one more than the last
 abbrev pub outside : ℕ
 outside = 28
 
 -- Of one pair (i,j): 3i + j. Of two, on test edge e and trial edge g: 9 + 2(3e + g), plus 1 if the first trial vertex matches the second test
--- vertex. The three pairs (0,0), (1,1), (2,2): 27
+-- vertex. The three pairs (0,0), (1,1), (2,2): 27 (trial places rise, so three of them are 0, 1, 2)
 unfoldable pub patternOf : List Match → ℕ
 patternOf [] = outside
 patternOf (m ∷ []) = 3 * m .test + m .trial

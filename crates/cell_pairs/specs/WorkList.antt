@@ -1,6 +1,6 @@
 -- The work order: distant pairs first, touching pairs follow; and how many there are of each. Assumes nothing.
-use Prim.Native.Nat.{ℕ, _+_, _-_, _*_, _/_}
-use mathlib.Core.Bool.{Bool, not}
+use Prim.Native.Nat.{ℕ, _+_, _-_, _/_}
+use mathlib.Core.Bool.{not}
 use mathlib.Core.List.{List, [], _∷_, _++_, flatMap}
 use lib.ListN.{length, getD}
 use lib.Dec.{eqb}
@@ -25,7 +25,7 @@ rec p i j = record { pattern = p; test = i; trial = j }
 unfoldable pub coloured : ℕ → List ℕ → ℕ → List ℕ
 coloured C cs c = filter (λ i. eqb (getD cs i 0) c) (range C)
 
--- how many batches of B the cells make: the last may be shorter
+-- the numbers of the batches that cut the cells into B: the last may be shorter
 abbrev pub batches : ℕ → List ℕ → List ℕ
 batches B cells = range ((length cells + (B - 1)) / B)
 
@@ -55,7 +55,7 @@ unfoldable pub touchingPair : Mesh → ℕ → ℕ → ℕ → ℕ → List Rec
 touchingPair m p v i j =
     when (eqb (smallestShared (m .cellVertices) (m .vertices) i j) v and eqb (pattern (m .cellVertices) i j) p) (rec p i j ∷ [])
 
--- touching pairs: pattern, vertex, test cell, trial cell, all rising
+-- touching pairs: pattern (0 to 27), vertex, test cell, trial cell, all rising
 unfoldable pub touchingPart : Mesh → List Rec
 touchingPart m =
     flatMap

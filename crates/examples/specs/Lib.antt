@@ -5,8 +5,8 @@ use Rattle.lists.specs.Examples.{Example, Agree, no-more, _and-also_}
 use Rattle.function.specs.Examples.{M1-colours, M1-dofs, M2-dofs, M3-colours, M2-owners, M2-count, M1-colours-holds, M1-dofs-holds, M2-dofs-holds, M3-colours-holds, M2-owners-holds, M2-count-holds}
 use Rattle.integrands.specs.Examples.{F3, F4, F3-holds, F4-holds}
 use Rattle.cell_pair_assemblers.specs.Examples.{F1, F2, F1-rounded, F2-rounded, F1-holds, F2-holds, F1-rounded-holds, F2-rounded-holds}
-use Rattle.cell_pairs.specs.Examples.{M4-records, M5-records, M6-distant, M6-sharing, M6-sum, M7-records, M4-records-holds, M5-records-holds, M6-distant-holds, M6-sharing-holds, M6-sum-holds, M7-records-holds}
-use Rattle.boundary_assemblers.specs.Examples.{M-planned, M7-refused, M7-planned, M8-batch, M8-cells, M-planned-holds, M7-refused-holds, M7-planned-holds, M8-batch-holds, M8-cells-holds}
+use Rattle.cell_pairs.specs.Examples.{M4-records, M5-records, M7-records, M4-records-holds, M5-records-holds, M7-records-holds}
+use Rattle.boundary_assemblers.specs.Examples.{M-planned, M-sizes, M6-distant, M6-touching, M6-sum, M7-refused, M7-planned, M8-batch, M8-cells, M-planned-holds, M-sizes-holds, M6-distant-holds, M6-touching-holds, M6-sum-holds, M7-refused-holds, M7-planned-holds, M8-batch-holds, M8-cells-holds}
 use Rattle.job.specs.Examples.{M4, M5, M7-turned-text, M7-twice-text, M8-batch-text, M4-short, M4-longer, job-large, M4-holds, M5-holds, M7-turned-text-holds, M7-twice-text-holds, M8-batch-text-holds, M4-short-holds, M4-longer-holds, job-large-holds}
 
 -- the paper's
@@ -16,10 +16,10 @@ examples =
     M1-colours ∷ M1-dofs ∷ M2-dofs ∷ M3-colours
     -- M4 and M5: what `worklist` prints
     ∷ M4 ∷ M5
-    -- M6: N, S, and their sum
-    ∷ M6-distant ∷ M6-sharing ∷ M6-sum
-    -- M7: turned, planning answers 7; twice, four records of 27
-    ∷ M7-refused ∷ M7-records
+    -- M6: N, S, and their sum, of what planning hands back
+    ∷ M6-distant ∷ M6-touching ∷ M6-sum
+    -- M7: turned, planning answers 7; twice, it accepts, with four records of 27
+    ∷ M7-refused ∷ M7-planned ∷ M7-records
     -- M8: batch 0; C = 2,049
     ∷ M8-batch ∷ M8-cells
     ∷ F1 ∷ F2 ∷ F3 ∷ F4
@@ -34,9 +34,10 @@ theorem =
     and-also M4-holds
     and-also M5-holds
     and-also M6-distant-holds
-    and-also M6-sharing-holds
+    and-also M6-touching-holds
     and-also M6-sum-holds
     and-also M7-refused-holds
+    and-also M7-planned-holds
     and-also M7-records-holds
     and-also M8-batch-holds
     and-also M8-cells-holds
@@ -50,7 +51,7 @@ theorem =
 -- in which rounding shows
 abbrev pub more : List Example
 more =
-    M4-records ∷ M5-records ∷ M-planned ∷ M7-planned ∷ M7-turned-text ∷ M7-twice-text ∷ M8-batch-text
+    M4-records ∷ M5-records ∷ M-planned ∷ M-sizes ∷ M7-turned-text ∷ M7-twice-text ∷ M8-batch-text
     ∷ M4-short ∷ M4-longer ∷ job-large ∷ M2-owners ∷ M2-count ∷ F1-rounded ∷ F2-rounded ∷ []
 
 pub more-hold : Agree more
@@ -58,7 +59,7 @@ more-hold =
     M4-records-holds
     and-also M5-records-holds
     and-also M-planned-holds
-    and-also M7-planned-holds
+    and-also M-sizes-holds
     and-also M7-turned-text-holds
     and-also M7-twice-text-holds
     and-also M8-batch-text-holds

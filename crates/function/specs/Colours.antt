@@ -8,7 +8,6 @@ use lib.Dec.{eqb, ltb}
 use Rattle.lists.specs.Bool.{_and_}
 use Rattle.lists.specs.Bounded.{some, least}
 use Rattle.grid.specs.Cells.{share}
-use Rattle.function.specs.declared.Element.{Element}
 use Rattle.function.specs.Numbering.{Space}
 
 -- an earlier cell that shares with cell i, by the relation r, has colour c of the colours cs

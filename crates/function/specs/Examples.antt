@@ -1,9 +1,8 @@
 -- M1, M2 and M3 of the paper. Assumes nothing.
 use Prim.Native.Nat.{ℕ}
 use mathlib.Core.Path.{refl}
-use mathlib.Core.List.{List, [], _∷_}
+use mathlib.Core.List.{[], _∷_}
 use Rattle.lists.specs.Examples.{Example, example, Holds}
-use Rattle.grid.specs.Mesh.{Mesh}
 use Rattle.grid.specs.Examples.{M, opened-grid}
 use Rattle.function.specs.Elements.{dim, dimsRight}
 use Rattle.function.specs.declared.Element.{Element}

@@ -1,5 +1,5 @@
 -- The meshes of the paper's examples. Assumes nothing.
-use mathlib.Core.List.{List, [], _∷_}
+use mathlib.Core.List.{[], _∷_}
 use lib.ListN.{replicate}
 use Rattle.lists.specs.Examples.{opened-lists}
 use Rattle.grid.specs.Cells.{has, share, sameTwo}

@@ -10,7 +10,6 @@ use Rattle.lists.specs.Range.{range}
 use Rattle.lists.specs.Refusals.{Check, check}
 use Rattle.grid.specs.Mesh.{Mesh}
 use Rattle.function.specs.declared.Element.{Element}
-use Rattle.integrands.specs.declared.Integrand.{Integrand}
 use Rattle.integrands.specs.declared.Term.the-variants.{Bare}
 use Rattle.boundary_assemblers.specs.Planning.{Planning}
 

@@ -6,7 +6,7 @@ use mathlib.Core.List.{List, [], _∷_, _++_, flatMap}
 use lib.Dec.{ltb}
 use Rattle.lists.specs.Refusals.{refusal}
 use Rattle.cell_pairs.specs.WorkList.{Rec}
-use Rattle.boundary_assemblers.specs.Planning.{inputChecks, workRecords}
+use Rattle.boundary_assemblers.specs.Planning.{planChecks, listsFor, workRecords}
 use Rattle.job.specs.Job.{jobPlanning, jobChecks}
 
 -- the decimal digits of a number below 10^k, as bytes (0 is 48)
@@ -26,9 +26,9 @@ lineOf r = decimal (r .pattern) ++ 32 ∷ decimal (r .test) ++ 32 ∷ decimal (r
 unfoldable pub refusedLine : ℕ → List ℕ
 refusedLine n = 114 ∷ 101 ∷ 102 ∷ 117 ∷ 115 ∷ 101 ∷ 100 ∷ 32 ∷ decimal n ++ 10 ∷ []
 
--- `worklist` checks 12 and 13 first, then plans; its lists have the right lengths, so 8 does not come
+-- `worklist` checks 12, 13 first, then plans with lists of the right lengths
 unfoldable pub jobRefusal : List ℕ → ℕ
-jobRefusal s = refusal (jobChecks s ++ inputChecks (jobPlanning s))
+jobRefusal s = refusal (jobChecks s ++ planChecks (jobPlanning s) (listsFor (jobPlanning s)))
 
 abbrev pub textAnswer : ℕ → List ℕ → List ℕ
 textAnswer zero s = flatMap lineOf (workRecords (jobPlanning s))

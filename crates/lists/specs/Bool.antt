@@ -1,6 +1,6 @@
 -- And, or and "the same answer" on computed tests, and how a proof takes them apart. They are shut (mathlib's `_&&_` unfolds everywhere, and antt
 -- then finds no argument of it): a computation opens them by `unfolding`. Assumes nothing.
-use mathlib.Core.Bool.{Bool, true, false, not, _&&_, _||_}
+use mathlib.Core.Bool.{Bool, true, false, not}
 use mathlib.Core.Path.{_≡_, refl, sym, subst, _∙_}
 use mathlib.Core.Logic.{_⊎_, inl, inr}
 use borrow.Author.Tests.{not-true, not-false}

@@ -1,12 +1,11 @@
 -- What a function that writes a run of entries into a lent list says of it (`Wrote`), and the laws by which a loop of such calls says the same
 -- of all that it wrote (`Each`, `Turns`). An entry takes `width` numbers: 1 for a list of numbers, 3 for a list of work records. Assumes nothing.
 use mathlib.Core.Path.{_≡_, refl, sym, ap, ap₂, _∙_}
-use mathlib.Core.List.{List, [], _∷_, _++_, flatMap, append-nil}
-use Prim.Native.Nat.{ℕ, zero, suc, _+_, _*_, _≤_, _<_, zero-le}
-use native.Mathlib.Nat.{add-zero, add-suc, suc-add, one-mul, mul-le-mul-left, mul-add}
-use native.Mathlib.Numerals.{add-one, add-two}
+use mathlib.Core.List.{List, [], _∷_, _++_, flatMap}
+use Prim.Native.Nat.{ℕ, _+_, _*_, _≤_, _<_, zero-le}
+use native.Mathlib.Nat.{add-zero, one-mul, mul-le-mul-left}
 use native.Mathlib.Omega.{arith}
-use lib.ListN.{length, getD, set, take, length-append, drop-of-length-le}
+use lib.ListN.{length, getD, set, take, length-append}
 use lib.Seq.{sets, length-sets, take-all}
 use Rattle.lists.specs.Stores.{sets-append}
 use Rattle.lists.specs.Range.{range, flatMap-take, flatMap-front, flatMap-range, flatMap-none, range-front}

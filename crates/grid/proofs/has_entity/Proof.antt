@@ -6,8 +6,6 @@ use Rattle.grid.specs.Cells.{has}
 use borrow.Author.Needs.{needs}
 use Rattle.grid.proofs.has_entity.Statement.{statement}
 use Rattle.grid.proofs.has_entity.Tie as tie
-use Rattle.grid.proofs.has_entity.Reads as reads
-use Rattle.grid.proofs.has_entity.Lts as lts
 
 mul-at : tie.Need-mul-at
 mul-at c = search needs

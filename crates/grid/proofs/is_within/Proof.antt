@@ -1,11 +1,8 @@
 -- `grid::is_within` meets its contract: `&` of two tests is `_and_`. Assumes nothing.
 use mathlib.Core.Path.{refl}
 use Rattle.lists.specs.Bool.{_and_}
-use borrow.Author.Needs.{needs}
 use Rattle.grid.proofs.is_within.Statement.{statement}
 use Rattle.grid.proofs.is_within.Tie as tie
-use Rattle.grid.proofs.is_within.Reads as reads
-use Rattle.grid.proofs.is_within.Lts as lts
 
 returns : tie.Need-returns
 unfolding _and_

@@ -6,9 +6,6 @@ use Rattle.grid.specs.Cells.{share}
 use borrow.Author.Needs.{needs}
 use Rattle.grid.proofs.neighbours.Statement.{statement}
 use Rattle.grid.proofs.neighbours.Tie as tie
-use Rattle.grid.proofs.neighbours.Reads as reads
-use Rattle.grid.proofs.neighbours.Lts as lts
-use Rattle.grid.proofs.has_entity.Reads as has-entity-reads
 
 mul-at : tie.Need-mul-at
 mul-at c = search needs

@@ -4,9 +4,6 @@ use borrow.Author.Needs.{needs}
 use Rattle.function.specs.Elements.{dim}
 use Rattle.function.proofs.Element.dim.Statement.{statement}
 use Rattle.function.proofs.Element.dim.Tie as tie
-use Rattle.function.proofs.Element.dim.Reads as reads
-use Rattle.function.proofs.Element.dim.Lts as lts
-use Rattle.function.proofs.wide.Reads as wide-reads
 
 wide-requires : tie.Need-wide-requires
 wide-requires c κs = search needs
