@@ -1,5 +1,9 @@
 -- Planning (`Planning`), the run's calls (`Runs`), the machine that a dense run is set beside (`Machine`), and the examples of planning (`Examples`).
 pub mod Planning
 pub mod Runs
+pub mod Accepted
 pub mod Machine
+pub mod Calls
+pub mod Whole
+pub mod Reading
 pub mod Examples

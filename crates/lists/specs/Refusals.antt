@@ -1,5 +1,7 @@
 -- A call's checks in their order, each with its number; the answer is the number of the first that turns the call down, or 0. Assumes nothing.
-use Prim.Native.Nat.{ℕ}
+use Prim.Native.Nat.{ℕ, suc}
+use native.Mathlib.Omega.{arith}
+use mathlib.Core.Path.{_≡_, refl}
 use mathlib.Core.Bool.{Bool, true, false}
 use mathlib.Core.List.{List, [], _∷_}
 
@@ -19,3 +21,19 @@ unless false n rest = n
 unfoldable pub refusal : List Check → ℕ
 refusal [] = 0
 refusal (c ∷ cs) = unless (c .passes) (c .number) (refusal cs)
+
+-- ---- laws
+
+pub check-passes : (n : ℕ) (b : Bool) (cs : List Check) → b ≡ true → refusal (check n b ∷ cs) ≡ refusal cs
+unfolding refusal unless
+check-passes n b cs e = rw e
+
+pub check-fails : (n : ℕ) (b : Bool) (cs : List Check) → b ≡ false → refusal (check n b ∷ cs) ≡ n
+unfolding refusal unless
+check-fails n b cs e = rw e
+
+-- nothing is turned down: the check passed, and so did the others
+pub check-zero : (n : ℕ) (b : Bool) (cs : List Check) → refusal (check (suc n) b ∷ cs) ≡ 0 → (b ≡ true) × (refusal cs ≡ 0)
+unfolding refusal unless
+check-zero n true cs e = (refl, e)
+check-zero n false cs e = absurd (omega arith)

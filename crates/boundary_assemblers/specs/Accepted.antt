@@ -1,0 +1,41 @@
+-- What holds where planning turns nothing down. Assumes nothing.
+use mathlib.Core.Path.{_≡_}
+use mathlib.Core.Bool.{true}
+use Rattle.lists.specs.Refusals.{check-zero}
+use Rattle.grid.specs.Mesh.{cellsRight, verticesRight, edgesRight}
+use Rattle.function.specs.Elements.{dimsRight}
+use Rattle.integrands.specs.Terms.{integrandRight}
+use Rattle.cell_pairs.specs.Patterns.{patternsRight}
+use Rattle.boundary_assemblers.specs.Planning.{Planning, Lists, batchRight, lengthsRight, planRefusal}
+
+pub record Accepted (x : Planning) (l : Lists) : Type 0 where
+  pub cells : cellsRight (x .mesh) ≡ true
+  pub vertices : verticesRight (x .mesh) ≡ true
+  pub edges : edgesRight (x .mesh) ≡ true
+  pub dims : dimsRight (x .test) (x .trial) ≡ true
+  pub batch : batchRight x ≡ true
+  pub integrand : integrandRight (x .integrand) ≡ true
+  pub patterns : patternsRight (x .mesh .cells) (x .mesh .cellVertices) ≡ true
+  pub lengths : lengthsRight x l ≡ true
+
+pub accepted : (x : Planning) (l : Lists) → planRefusal x l ≡ 0 → Accepted x l
+unfolding planRefusal
+accepted x l e =
+    let c₁ = check-zero 0 _ _ e in
+    let c₂ = check-zero 1 _ _ (c₁ .1) in
+    let c₃ = check-zero 2 _ _ (c₂ .1) in
+    let c₄ = check-zero 3 _ _ (c₃ .1) in
+    let c₅ = check-zero 4 _ _ (c₄ .1) in
+    let c₆ = check-zero 5 _ _ (c₅ .1) in
+    let c₇ = check-zero 6 _ _ (c₆ .1) in
+    let c₈ = check-zero 7 _ _ (c₇ .1) in
+    record {
+      cells = c₁ .0;
+      vertices = c₂ .0;
+      edges = c₃ .0;
+      dims = c₄ .0;
+      batch = c₅ .0;
+      integrand = c₆ .0;
+      patterns = c₇ .0;
+      lengths = c₈ .0;
+    }
