@@ -5,5 +5,6 @@ pub mod Accepted
 pub mod Machine
 pub mod Calls
 pub mod Whole
+pub mod PlanRight
 pub mod Reading
 pub mod Examples

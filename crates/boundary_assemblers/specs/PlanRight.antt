@@ -1,0 +1,192 @@
+-- Where planning turns nothing down, a run begun from its numbers passes the checks 21 and 22 at each position on the plan that planning leaves: `Right` of
+-- `Whole`. Assumes nothing.
+use Prim.Native.Nat.{ℕ, zero, suc, _+_, _*_, _≤_, _<_}
+use native.Mathlib.Nat.{mul-comm, mul-le-mul-left}
+use native.Mathlib.Omega.{arith}
+use mathlib.Core.Path.{_≡_, refl, sym, ap, _∙_}
+use mathlib.Core.Bool.{true, false, not}
+use mathlib.Core.Logic.{⊎-elim}
+use mathlib.Core.List.{List, [], _∷_}
+use lib.ListN.{length, getD, drop, length-take}
+use lib.Seq.{getD-take, getD-drop}
+use lib.Dec.{ltb}
+use borrow.Author.Tests.{le-leb, lt-leb, lt-ltb, eq-eqb, ne-eqb}
+use Rattle.lists.specs.Bool.{_or_, and-both, and-left, or-left, or-right}
+use Rattle.lists.specs.Bounded.{all-of, lt-or-le}
+use Rattle.grid.specs.Mesh.{allBelow, cellsRight, verticesRight, edgesRight}
+use Rattle.function.specs.Elements.{dim}
+use Rattle.function.specs.Numbering.{Space, dofList, dofCount}
+use Rattle.function.specs.Colours.{colourList}
+use Rattle.cell_pairs.specs.WorkList.{Rec, rec, flat, distantPairs}
+use Rattle.cell_pairs.specs.WorkRecords.{Distant, Touching}
+use Rattle.cell_pairs.specs.Counting.{Countable, split, length-work, record-distant, record-touching, records-right}
+use Rattle.boundary_assemblers.specs.Planning.{Planning, Lists, planNumbers, testSpace, trialSpace, workRecords}
+use Rattle.boundary_assemblers.specs.Accepted.{Accepted}
+use Rattle.boundary_assemblers.specs.Runs.{recordAt, cellDofs, isTouching, isDistant, runRight, planRight, recordRight}
+use Rattle.boundary_assemblers.specs.Whole.{Right, planOf, runAt, pairCount, recordNo, touches}
+
+-- ---- records as numbers
+
+-- the numbers of record k
+pub flat-at : (rs : List Rec) (k : ℕ) → k < length rs
+    → (getD (flat rs) (3 * k) 0 ≡ getD rs k (rec 0 0 0) .pattern)
+    × (getD (flat rs) (3 * k + 1) 0 ≡ getD rs k (rec 0 0 0) .test)
+    × (getD (flat rs) (3 * k + 2) 0 ≡ getD rs k (rec 0 0 0) .trial)
+unfolding flat
+flat-at [] k h = absurd (omega arith)
+flat-at (r ∷ rs) zero h = (refl, refl, refl)
+flat-at (r ∷ rs) (suc k) h =
+    let e₀ : 3 * suc k ≡ suc (suc (suc (3 * k))) = omega arith in
+    let e₁ : 3 * suc k + 1 ≡ suc (suc (suc (3 * k + 1))) = omega arith in
+    let e₂ : 3 * suc k + 2 ≡ suc (suc (suc (3 * k + 2))) = omega arith in
+    let more = flat-at rs k (omega arith) in
+    (rw e₀ (more .0), rw e₁ (more .1), rw e₂ (more .2))
+
+pub length-flat : (rs : List Rec) → length (flat rs) ≡ 3 * length rs
+unfolding flat
+length-flat [] = refl
+length-flat (r ∷ rs) = omega (arith, length-flat rs)
+
+-- ---- what a pattern says
+
+near-touching : (q : ℕ) → q < 28 → isTouching q ≡ true
+near-touching q h = le-leb q 27 (omega arith)
+
+near-distant : (q : ℕ) → q < 28 → isDistant q ≡ false
+near-distant q h = ne-eqb q 255 (λ (e : q ≡ 255). omega arith)
+
+far-touching : (q : ℕ) → q ≡ 255 → isTouching q ≡ false
+far-touching q e = lt-leb q 27 (omega arith)
+
+-- ---- DOFs
+
+-- what the numbering of an element ensures
+pub record Numbered (s : Space) (C : ℕ) : Type 0 where
+  pub long : length (dofList s C) ≡ C * dim (s .element)
+  pub below : (k : ℕ) → k < C * dim (s .element) → getD (dofList s C) k 0 < dofCount s C
+  pub few : dofCount s C ≤ C * dim (s .element)
+
+-- the DOFs of a cell in the DOF list
+pub cell-dof : (dofs : List ℕ) (d i k : ℕ) → k < d → getD (cellDofs dofs d i) k 0 ≡ getD dofs (d * i + k) 0
+unfolding cellDofs
+cell-dof dofs d i k h = getD-take d (drop (d * i) dofs) k 0 h ∙ getD-drop (d * i) dofs k 0
+
+pub length-cell : (dofs : List ℕ) (d i : ℕ) → length (cellDofs dofs d i) ≤ d
+unfolding cellDofs
+length-cell dofs d i = omega (arith, length-take d (drop (d * i) dofs))
+
+-- are below the count
+cell-below : (s : Space) (C i : ℕ) → Numbered s C → i < C → allBelow (cellDofs (dofList s C) (dim (s .element)) i) (dofCount s C) ≡ true
+unfolding allBelow
+cell-below s C i n h =
+    all-of (length (cellDofs (dofList s C) (dim (s .element)) i)) (λ k. ltb (getD (cellDofs (dofList s C) (dim (s .element)) i) k 0) (dofCount s C)) one
+  where
+    one : (k : ℕ) → k < length (cellDofs (dofList s C) (dim (s .element)) i) → ltb (getD (cellDofs (dofList s C) (dim (s .element)) i) k 0) (dofCount s C) ≡ true
+    one k l =
+        let inside : k < dim (s .element) = omega (arith, length-cell (dofList s C) (dim (s .element)) i) in
+        let place : dim (s .element) * i + k < C * dim (s .element) = rw (mul-comm C (dim (s .element))) (omega (arith, mul-le-mul-left (dim (s .element)) h)) in
+        rw (cell-dof (dofList s C) (dim (s .element)) i k inside) (lt-ltb _ _ (n .below (dim (s .element) * i + k) place))
+
+module _ (x : Planning) (l : Lists) (ok : Accepted x l) (test : Numbered (testSpace x) (x .mesh .cells)) (trial : Numbered (trialSpace x) (x .mesh .cells))
+    (counts : Countable (x .mesh) (x .batch) (colourList (testSpace x) (x .mesh .cells)) (colourList (trialSpace x) (x .mesh .cells))) where
+  abbrev C : ℕ
+  C = x .mesh .cells
+
+  -- 21: the run's numbers
+  run-right : (p : ℕ) → p ≤ pairCount x → runRight (runAt x p) ≡ true
+  unfolding runRight runAt planNumbers cellsRight verticesRight edgesRight
+  run-right p h =
+      let most : distantPairs (x .mesh) ≤ pairCount x = omega (arith, split (x .mesh)) in
+      and-both _ _ (and-both _ _ (and-both _ _ (and-both _ _ (and-both _ _ (and-both _ _ (and-both _ _ (and-both _ _ (and-both _ _
+      (and-left _ _ (ok .cells))
+      (and-left _ _ (and-left _ _ (ok .vertices))))
+      (and-left _ _ (and-left _ _ (and-left _ _ (ok .edges)))))
+      (ok .dims))
+      (ok .integrand))
+      (le-leb _ _ h))
+      (le-leb _ _ most))
+      (or-left _ _ refl))
+      (le-leb _ _ (test .few)))
+      (le-leb _ _ (trial .few))
+
+  -- 21: the plan's lengths
+  plan-right : (p : ℕ) → planRight (runAt x p) (planOf x) ≡ true
+  unfolding planRight runAt planNumbers planOf
+  plan-right p =
+      let all-pairs : length (flat (workRecords x)) ≡ 3 * pairCount x = length-flat (workRecords x) ∙ ap (λ (n : ℕ). 3 * n) (length-work (x .mesh) (x .batch) _ _ counts) in
+      and-both _ _ (and-both _ _ (eq-eqb _ _ (test .long)) (eq-eqb _ _ (trial .long))) (eq-eqb _ _ all-pairs)
+
+  module _ (p : ℕ) (below : p < pairCount x) where
+    inside : p < length (workRecords x)
+    inside = omega (arith, length-work (x .mesh) (x .batch) _ _ counts)
+
+    numbers : (getD (flat (workRecords x)) (3 * p) 0 ≡ recordNo x p .pattern)
+        × (getD (flat (workRecords x)) (3 * p + 1) 0 ≡ recordNo x p .test)
+        × (getD (flat (workRecords x)) (3 * p + 2) 0 ≡ recordNo x p .trial)
+    numbers = flat-at (workRecords x) p inside
+
+    pattern-is : recordAt (planOf x .work) p .pattern ≡ recordNo x p .pattern
+    unfolding recordAt planOf
+    pattern-is = numbers .0
+
+    test-is : recordAt (planOf x .work) p .«test_cell» ≡ recordNo x p .test
+    unfolding recordAt planOf
+    test-is = numbers .1
+
+    trial-is : recordAt (planOf x .work) p .«trial_cell» ≡ recordNo x p .trial
+    unfolding recordAt planOf
+    trial-is = numbers .2
+
+    -- the first N records are distant, those that follow are touching
+    kind : (P : Type 0) → (Distant (x .mesh) (recordNo x p) → P) → (Touching (x .mesh) (recordNo x p) → P) → P
+    kind P far near =
+        ⊎-elim (λ h. far (record-distant (x .mesh) (x .batch) _ _ counts p h)) (λ h. near (record-touching (x .mesh) (x .batch) _ _ counts p h below))
+        (lt-or-le p (distantPairs (x .mesh)))
+
+    distant-is : isDistant (recordNo x p .pattern) ≡ not (touches x p)
+    distant-is =
+        kind _ (λ d. eq-eqb _ _ (d .marked) ∙ sym (ap not (d .apart))) (λ t. near-distant _ (t .known) ∙ sym (ap not (t .meet)))
+
+    touching-is : isTouching (recordNo x p .pattern) ≡ touches x p
+    touching-is = kind _ (λ d. far-touching _ (d .marked) ∙ sym (d .apart)) (λ t. near-touching _ (t .known) ∙ sym (t .meet))
+
+    -- a pattern of the list
+    pattern-right : isTouching (recordAt (planOf x .work) p .pattern) or isDistant (recordAt (planOf x .work) p .pattern) ≡ true
+    pattern-right =
+        rw pattern-is
+        (kind _ (λ d. or-right (isTouching (recordNo x p .pattern)) _ (eq-eqb _ _ (d .marked))) (λ t. or-left _ _ (near-touching _ (t .known))))
+
+    -- the DOFs of its cells
+    test-dofs : recordNo x p .test < C → allBelow (cellDofs (planOf x .testDofs) (dim (x .test)) (recordAt (planOf x .work) p .«test_cell»)) (dofCount (testSpace x) C) ≡ true
+    unfolding planOf
+    test-dofs h = rw test-is (cell-below (testSpace x) C (recordNo x p .test) test h)
+
+    trial-dofs : recordNo x p .trial < C → allBelow (cellDofs (planOf x .trialDofs) (dim (x .trial)) (recordAt (planOf x .work) p .«trial_cell»)) (dofCount (trialSpace x) C) ≡ true
+    unfolding planOf
+    trial-dofs h = rw trial-is (cell-below (trialSpace x) C (recordNo x p .trial) trial h)
+
+    -- 22
+    record-right : recordRight (runAt x p) (planOf x) ≡ true
+    unfolding recordRight runAt planNumbers
+    record-right =
+        let cells = records-right (x .mesh) (x .batch) _ _ counts p below in
+        and-both _ _ (and-both _ _ (and-both _ _ (and-both _ _
+        pattern-right
+        (rw test-is (lt-ltb _ _ (cells .testCell))))
+        (rw trial-is (lt-ltb _ _ (cells .trialCell))))
+        (test-dofs (cells .testCell)))
+        (trial-dofs (cells .trialCell))
+
+  -- what the theorem on whole lists of calls asks of planning
+  pub right : Right x
+  right =
+      record {
+        run = run-right;
+        plan = plan-right;
+        record-right = record-right;
+        pattern-is = pattern-is;
+        test-is = test-is;
+        trial-is = trial-is;
+        distant = distant-is;
+        touching = touching-is;
+      }
