@@ -22,7 +22,7 @@ use Rattle.cell_pairs.specs.WorkRecords.{Distant, Touching}
 use Rattle.cell_pairs.specs.Counting.{Countable, split, length-work, record-distant, record-touching, records-right}
 use Rattle.boundary_assemblers.specs.Planning.{Planning, Lists, planNumbers, testSpace, trialSpace, workRecords}
 use Rattle.boundary_assemblers.specs.Accepted.{Accepted}
-use Rattle.boundary_assemblers.specs.Runs.{recordAt, cellDofs, isTouching, isDistant, runRight, planRight, recordRight}
+use Rattle.boundary_assemblers.specs.Runs.{recordAt, cellDofs, isTouching, isDistant, rangesRight, placesRight, planRight, recordRight}
 use Rattle.boundary_assemblers.specs.Whole.{Right, planOf, runAt, pairCount, recordNo, touches}
 
 -- ---- records as numbers
@@ -93,17 +93,22 @@ module _ (x : Planning) (l : Lists) (ok : Accepted x l) (test : Numbered (testSp
   C = x .mesh .cells
 
   -- 21: the run's numbers
-  run-right : (p : ℕ) → p ≤ pairCount x → runRight (runAt x p) ≡ true
-  unfolding runRight runAt planNumbers cellsRight verticesRight edgesRight
-  run-right p h =
-      let most : distantPairs (x .mesh) ≤ pairCount x = omega (arith, split (x .mesh)) in
-      and-both _ _ (and-both _ _ (and-both _ _ (and-both _ _ (and-both _ _ (and-both _ _ (and-both _ _ (and-both _ _ (and-both _ _
+  ranges-right : (p : ℕ) → rangesRight (runAt x p) ≡ true
+  unfolding rangesRight runAt planNumbers cellsRight verticesRight edgesRight
+  ranges-right p =
+      and-both _ _ (and-both _ _ (and-both _ _ (and-both _ _
       (and-left _ _ (ok .cells))
       (and-left _ _ (and-left _ _ (ok .vertices))))
       (and-left _ _ (and-left _ _ (and-left _ _ (ok .edges)))))
       (ok .dims))
-      (ok .integrand))
-      (le-leb _ _ h))
+      (ok .integrand)
+
+  places-right : (p : ℕ) → p ≤ pairCount x → placesRight (runAt x p) ≡ true
+  unfolding placesRight runAt planNumbers
+  places-right p h =
+      let most : distantPairs (x .mesh) ≤ pairCount x = omega (arith, split (x .mesh)) in
+      and-both _ _ (and-both _ _ (and-both _ _ (and-both _ _
+      (le-leb _ _ h)
       (le-leb _ _ most))
       (or-left _ _ refl))
       (le-leb _ _ (test .few)))
@@ -181,7 +186,8 @@ module _ (x : Planning) (l : Lists) (ok : Accepted x l) (test : Numbered (testSp
   pub right : Right x
   right =
       record {
-        run = run-right;
+        ranges = ranges-right;
+        places = places-right;
         plan = plan-right;
         record-right = record-right;
         pattern-is = pattern-is;

@@ -87,15 +87,19 @@ isDistant pattern = eqb pattern 255
 
 -- ---- the checks
 
--- 21: run numbers are in their ranges, p and N at most C·C, an entries run has p from N on, rows and columns are at most C·dim
-unfoldable pub runRight : Run → Bool
-runRight r =
+-- 21: run numbers are in their ranges
+unfoldable pub rangesRight : Run → Bool
+rangesRight r =
     within 1 2048 (r .numbers .cells)
     and within 3 4096 (r .numbers .vertices)
     and within 3 6144 (r .numbers .edges)
     and dimsRight (r .numbers .test) (r .numbers .trial)
     and integrandRight (r .numbers .integrand)
-    and leb (r .position) (pairs (r .numbers))
+
+-- 21: p and N are at most C·C, an entries run has p from N on, rows and columns are at most C·dim
+unfoldable pub placesRight : Run → Bool
+placesRight r =
+    leb (r .position) (pairs (r .numbers))
     and leb (r .numbers .distant) (pairs (r .numbers))
     and (not (r .entries) or leb (r .numbers .distant) (r .position))
     and leb (r .numbers .rows) (r .numbers .cells * testDim r)
@@ -134,12 +138,12 @@ recordRight r l =
 -- look checks 21, 20, 22
 unfoldable pub lookRefusal : Run → Plan → ℕ
 lookRefusal r l =
-    refusal (check 21 (runRight r and planRight r l) ∷ check 20 (pairLeft r) ∷ check 22 (recordRight r l) ∷ [])
+    refusal (check 21 (rangesRight r and placesRight r and planRight r l) ∷ check 20 (pairLeft r) ∷ check 22 (recordRight r l) ∷ [])
 
 -- adds and the entries call check 21, 20, 22, 23, then 9 to 11: what is lent beside the plan has its length, record and run are of the call's kind
 abbrev pub callChecks : Run → Plan → Bool → Bool → List Check → List Check
 callChecks r l sized kind numbers =
-    check 21 (runRight r and planRight r l and sized) ∷ check 20 (pairLeft r) ∷ check 22 (recordRight r l) ∷ check 23 kind ∷ numbers
+    check 21 (rangesRight r and placesRight r and planRight r l and sized) ∷ check 20 (pairLeft r) ∷ check 22 (recordRight r l) ∷ check 23 kind ∷ numbers
 
 unfoldable pub distantRefusal : Run → Plan → List Float → Distant → ℕ
 distantRefusal r l M a =

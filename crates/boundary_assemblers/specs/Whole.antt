@@ -19,7 +19,7 @@ use Rattle.cell_pair_assemblers.specs.Lent.{Touching, Distant}
 use Rattle.boundary_assemblers.specs.declared.Run.{Run}
 use Rattle.boundary_assemblers.specs.declared.WorkRecord.{WorkRecord}
 use Rattle.boundary_assemblers.specs.Planning.{Planning, planNumbers, unlessRefused, testSpace, trialSpace, workRecords}
-use Rattle.boundary_assemblers.specs.Runs.{Plan, begin, pairs, recordAt, isTouching, isDistant, runRight, planRight, matrixRight, pairLeft, recordRight, callChecks, lookRefusal, distantRefusal, touchingRefusal, advance, lookAnswer, addAnswer, look, addDistant, addTouching, distantMatrix, touchingMatrix, Answer, found, accepted, lookedAnswer, lookedRun, addedAnswer, addedRun}
+use Rattle.boundary_assemblers.specs.Runs.{Plan, begin, pairs, recordAt, isTouching, isDistant, rangesRight, placesRight, planRight, matrixRight, pairLeft, recordRight, callChecks, lookRefusal, distantRefusal, touchingRefusal, advance, lookAnswer, addAnswer, look, addDistant, addTouching, distantMatrix, touchingMatrix, Answer, found, accepted, lookedAnswer, lookedRun, addedAnswer, addedRun}
 use Rattle.boundary_assemblers.specs.Machine.{Machine, machineOf, Call, looks, addsDistant, addsTouching, State, recordIn, machineRefusal, machineSum, answerTo, machineStep, machineRun}
 use Rattle.boundary_assemblers.specs.Calls.{Progress, runAfter, answerOf, matrixAfter, call, callAll}
 
@@ -46,7 +46,8 @@ touches x p = share (x .mesh .cellVertices) (recordNo x p .test) (recordNo x p .
 
 -- What planning ensures: the run's checks pass, the record at p is record p, and its pattern says whether its cells share a vertex
 pub record Right (x : Planning) : Type 0 where
-  pub run : (p : ℕ) → p ≤ pairCount x → runRight (runAt x p) ≡ true
+  pub ranges : (p : ℕ) → rangesRight (runAt x p) ≡ true
+  pub places : (p : ℕ) → p ≤ pairCount x → placesRight (runAt x p) ≡ true
   pub plan : (p : ℕ) → planRight (runAt x p) (planOf x) ≡ true
   pub record-right : (p : ℕ) → p < pairCount x → recordRight (runAt x p) (planOf x) ≡ true
   pub pattern-is : (p : ℕ) → p < pairCount x → recordAt (planOf x .work) p .pattern ≡ recordNo x p .pattern
@@ -111,7 +112,7 @@ module _ (x : Planning) (right : Right x) where
   same-checks : (p : ℕ) (sized kind kind′ : Bool) (numbers : List Check) → p ≤ pairCount x → (p < pairCount x → kind ≡ kind′)
       → refusal (callChecks (runAt x p) (planOf x) sized kind numbers) ≡ refusal (check 21 sized ∷ check 20 (not (eqb p (pairCount x))) ∷ check 23 kind′ ∷ numbers)
   unfolding refusal unless pairLeft runAt planNumbers _and_
-  same-checks p sized kind kind′ numbers h k = rw (right .run p h, right .plan p) (go sized (eqb p (pairCount x)) refl)
+  same-checks p sized kind kind′ numbers h k = rw (right .ranges p, right .places p h, right .plan p) (go sized (eqb p (pairCount x)) refl)
     where
       go : (s e : Bool) → eqb p (pairCount x) ≡ e
           → unless s 21 (unless (not e) 20 (unless (recordRight (runAt x p) (planOf x)) 22 (unless kind 23 (refusal numbers))))
@@ -126,7 +127,7 @@ module _ (x : Planning) (right : Right x) where
   -- look's checks
   look-same : (p : ℕ) → p ≤ pairCount x → lookRefusal (runAt x p) (planOf x) ≡ refusal (check 20 (not (eqb p (pairCount x))) ∷ [])
   unfolding lookRefusal refusal unless pairLeft runAt planNumbers _and_
-  look-same p h = rw (right .run p h, right .plan p) (go (eqb p (pairCount x)) refl)
+  look-same p h = rw (right .ranges p, right .places p h, right .plan p) (go (eqb p (pairCount x)) refl)
     where
       go : (e : Bool) → eqb p (pairCount x) ≡ e
           → unless (not e) 20 (unless (recordRight (runAt x p) (planOf x)) 22 0) ≡ unless (not e) 20 0
