@@ -1,7 +1,7 @@
 -- What holds where planning turns nothing down. Assumes nothing.
 use mathlib.Core.Path.{_≡_}
 use mathlib.Core.Bool.{true}
-use Rattle.lists.specs.Refusals.{check-zero}
+use Rattle.lists.specs.Refusals.{refusal-zero}
 use Rattle.grid.specs.Mesh.{cellsRight, verticesRight, edgesRight}
 use Rattle.function.specs.Elements.{dimsRight}
 use Rattle.integrands.specs.Terms.{integrandRight}
@@ -21,14 +21,14 @@ pub record Accepted (x : Planning) (l : Lists) : Type 0 where
 pub accepted : (x : Planning) (l : Lists) → planRefusal x l ≡ 0 → Accepted x l
 unfolding planRefusal
 accepted x l e =
-    let c₁ = check-zero 0 _ _ e in
-    let c₂ = check-zero 1 _ _ (c₁ .1) in
-    let c₃ = check-zero 2 _ _ (c₂ .1) in
-    let c₄ = check-zero 3 _ _ (c₃ .1) in
-    let c₅ = check-zero 4 _ _ (c₄ .1) in
-    let c₆ = check-zero 5 _ _ (c₅ .1) in
-    let c₇ = check-zero 6 _ _ (c₆ .1) in
-    let c₈ = check-zero 7 _ _ (c₇ .1) in
+    let c₁ = refusal-zero 0 _ _ e in
+    let c₂ = refusal-zero 1 _ _ (c₁ .1) in
+    let c₃ = refusal-zero 2 _ _ (c₂ .1) in
+    let c₄ = refusal-zero 3 _ _ (c₃ .1) in
+    let c₅ = refusal-zero 4 _ _ (c₄ .1) in
+    let c₆ = refusal-zero 5 _ _ (c₅ .1) in
+    let c₇ = refusal-zero 6 _ _ (c₆ .1) in
+    let c₈ = refusal-zero 7 _ _ (c₇ .1) in
     record {
       cells = c₁ .0;
       vertices = c₂ .0;

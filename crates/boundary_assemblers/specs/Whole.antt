@@ -11,7 +11,7 @@ use lib.Ieee.{Float}
 use borrow.Author.Tests.{eqb-false, not-true}
 use Rattle.lists.specs.Bool.{_and_}
 use Rattle.lists.specs.Fold.{over-agree}
-use Rattle.lists.specs.Refusals.{Check, check, refusal, unless, check-zero}
+use Rattle.lists.specs.Refusals.{Check, check, refusal, unless, refusal-zero}
 use Rattle.grid.specs.Cells.{share}
 use Rattle.function.specs.Numbering.{dofList}
 use Rattle.cell_pairs.specs.WorkList.{Rec, rec, flat}
@@ -155,14 +155,14 @@ module _ (x : Planning) (right : Right x) where
     distant-below : (a : Distant) → machineRefusal (machineOf x) s (addsDistant a) ≡ 0 → p < pairCount x
     unfolding machineRefusal machineOf
     distant-below a e =
-        let left : not (eqb p (pairCount x)) ≡ true = check-zero 19 _ _ (check-zero 20 _ _ e .1) .0 in
+        let left : not (eqb p (pairCount x)) ≡ true = refusal-zero 19 _ _ (refusal-zero 20 _ _ e .1) .0 in
         let other : p ≡ pairCount x → ⊥ = eqb-false p (pairCount x) (not-true (eqb p (pairCount x)) left) in
         omega arith
 
     touching-below : (a : Touching) → machineRefusal (machineOf x) s (addsTouching a) ≡ 0 → p < pairCount x
     unfolding machineRefusal machineOf
     touching-below a e =
-        let left : not (eqb p (pairCount x)) ≡ true = check-zero 19 _ _ (check-zero 20 _ _ e .1) .0 in
+        let left : not (eqb p (pairCount x)) ≡ true = refusal-zero 19 _ _ (refusal-zero 20 _ _ e .1) .0 in
         let other : p ≡ pairCount x → ⊥ = eqb-false p (pairCount x) (not-true (eqb p (pairCount x)) left) in
         omega arith
 
@@ -189,7 +189,7 @@ module _ (x : Planning) (right : Right x) where
     look-below : machineRefusal (machineOf x) s looks ≡ 0 → p < pairCount x
     unfolding machineRefusal machineOf
     look-below e =
-        let left : not (eqb p (pairCount x)) ≡ true = check-zero 19 _ _ e .0 in
+        let left : not (eqb p (pairCount x)) ≡ true = refusal-zero 19 _ _ e .0 in
         let other : p ≡ pairCount x → ⊥ = eqb-false p (pairCount x) (not-true (eqb p (pairCount x)) left) in
         omega arith
 

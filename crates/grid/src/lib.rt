@@ -1,4 +1,7 @@
-// The mesh: which cells share a vertex.
+// The mesh: checks 1 to 3 (`checks`), and which cells share a vertex.
+pub mod checks;
+mod edge_rule;
+
 ghost use mathlib.Core.Path.{_≡_};
 ghost use Prim.Native.Nat.{_+_, _*_, _≤_};
 ghost use lib.ListN.{length};

@@ -22,18 +22,24 @@ unfoldable pub refusal : List Check → ℕ
 refusal [] = 0
 refusal (c ∷ cs) = unless (c .passes) (c .number) (refusal cs)
 
--- ---- laws
+-- ---- the answer, check by check
 
-pub check-passes : (n : ℕ) (b : Bool) (cs : List Check) → b ≡ true → refusal (check n b ∷ cs) ≡ refusal cs
-unfolding refusal unless
-check-passes n b cs e = rw e
+pub refusal-none : refusal [] ≡ 0
+unfolding refusal
+refusal-none = refl
 
-pub check-fails : (n : ℕ) (b : Bool) (cs : List Check) → b ≡ false → refusal (check n b ∷ cs) ≡ n
+-- the first check turns the call down
+pub refusal-fails : (n : ℕ) (b : Bool) (cs : List Check) → b ≡ false → refusal (check n b ∷ cs) ≡ n
 unfolding refusal unless
-check-fails n b cs e = rw e
+refusal-fails n b cs e = rw e
 
--- nothing is turned down: the check passed, and so did the others
-pub check-zero : (n : ℕ) (b : Bool) (cs : List Check) → refusal (check (suc n) b ∷ cs) ≡ 0 → (b ≡ true) × (refusal cs ≡ 0)
+-- it passes, and the later ones answer
+pub refusal-passes : (n : ℕ) (b : Bool) (cs : List Check) → b ≡ true → refusal (check n b ∷ cs) ≡ refusal cs
 unfolding refusal unless
-check-zero n true cs e = (refl, e)
-check-zero n false cs e = absurd (omega arith)
+refusal-passes n b cs e = rw e
+
+-- none turns the call down: each passes
+pub refusal-zero : (n : ℕ) (b : Bool) (cs : List Check) → refusal (check (suc n) b ∷ cs) ≡ 0 → (b ≡ true) × (refusal cs ≡ 0)
+unfolding refusal unless
+refusal-zero n true cs e = (refl, e)
+refusal-zero n false cs e = absurd (omega arith)

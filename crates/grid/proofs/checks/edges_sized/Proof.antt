@@ -1,0 +1,21 @@
+-- `grid::checks::edges_sized` meets its contract: `&` of the three tests is `_and_`. Assumes nothing.
+use Rattle.lists.specs.Bool.{_and_}
+use borrow.Author.Needs.{needs}
+use Rattle.grid.proofs.checks.edges_sized.Statement.{statement}
+use Rattle.grid.proofs.checks.edges_sized.Tie as tie
+
+is-within-requires : tie.Need-is-within-requires
+is-within-requires c κs = search needs
+
+mul-result : tie.Need-mul-result
+mul-result c = search needs
+
+all-below-requires : tie.Need-all-below-requires
+all-below-requires c κs = search needs
+
+returns : tie.Need-returns
+unfolding _and_
+returns c = rw (c .all-below .ensures, c .before .is-within .ensures)
+
+pub edges-sized-spec : {M : Type 1} → statement M
+edges-sized-spec = tie.close (tie.spec is-within-requires mul-result all-below-requires returns)

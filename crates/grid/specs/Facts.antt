@@ -1,0 +1,226 @@
+-- What holds of a mesh that checks 1 to 3 pass (`Fine`), and the laws of cells that share an entity. Assumes nothing.
+use Prim.Native.Nat.{ℕ, zero, suc, _+_, _*_, _<_, _≤_}
+use native.Mathlib.Nat.{add-comm}
+use native.Mathlib.Omega.{arith}
+use mathlib.Core.Bool.{Bool, true, false, cond}
+use mathlib.Core.Path.{_≡_, refl, sym, ap, ap₂, subst, _∙_}
+use mathlib.Core.Logic.{_⊎_, inl, inr, ⊎-elim}
+use mathlib.Core.List.{List, [], _∷_}
+use lib.ListN.{length, getD}
+use lib.Dec.{leb, ltb, eqb}
+use borrow.Author.Tests.{leb-true, ltb-true, eqb-true, eqb-false, eq-eqb, not-true}
+use Rattle.lists.specs.Bool.{_and_, _or_, iff-sides, same-test, and-left, and-right, or-cases, or-no-left, or-no-right}
+use Rattle.lists.specs.Bounded.{all, all-at, some-at, some-which, lt-or-le}
+use Rattle.lists.specs.Refusals.{check, refusal, refusal-zero}
+use Rattle.grid.specs.Cells.{entity, has, share, firstEnd, secondEnd, sameTwo}
+use Rattle.grid.specs.Mesh.{Mesh, within, allBelow, distinct, placesAgree, edgeRule, cellsRight, verticesRight, edgesRight, meshChecks}
+use Rattle.grid.specs.EdgeRule.{place-at}
+
+-- ---- what a check that passes says
+
+pub within-low : (low high x : ℕ) → within low high x ≡ true → low ≤ x
+within-low low high x e = leb-true low x (and-left (leb low x) (leb x high) e)
+
+pub within-high : (low high x : ℕ) → within low high x ≡ true → x ≤ high
+within-high low high x e = leb-true x high (and-right (leb low x) (leb x high) e)
+
+pub below-at : (l : List ℕ) (bound : ℕ) → allBelow l bound ≡ true → (k : ℕ) → k < length l → getD l k 0 < bound
+unfolding allBelow
+below-at l bound e k h = ltb-true (getD l k 0) bound (all-at (length l) (λ k. ltb (getD l k 0) bound) e k h)
+
+-- the length that checks 1 and 3 read
+pub length-last : (a : Bool) (n m : ℕ) → a and eqb n m ≡ true → n ≡ m
+length-last a n m e = eqb-true n m (and-right a (eqb n m) e)
+
+pub length-before : (a : Bool) (n m : ℕ) (b : Bool) → a and eqb n m and b ≡ true → n ≡ m
+length-before a n m b e = length-last a n m (and-left (a and eqb n m) b e)
+
+pub record Fine (m : Mesh) : Type 0 where
+  pub one : 1 ≤ m .cells
+  pub fewCells : m .cells ≤ 2048
+  pub fewVertices : m .vertices ≤ 4096
+  pub fewEdges : m .edges ≤ 6144
+  pub vertexPlaces : length (m .cellVertices) ≡ 3 * m .cells
+  pub edgePlaces : length (m .cellEdges) ≡ 3 * m .cells
+  pub vertexBelow : (k : ℕ) → k < 3 * m .cells → getD (m .cellVertices) k 0 < m .vertices
+  pub edgeBelow : (k : ℕ) → k < 3 * m .cells → getD (m .cellEdges) k 0 < m .edges
+  pub apart : (i : ℕ) → i < m .cells → distinct (m .cellVertices) i ≡ true
+  pub rule : (k l : ℕ) → k < 3 * m .cells → l < 3 * m .cells → placesAgree (m .cellVertices) (m .cellEdges) k l ≡ true
+
+-- the three checks' tests, apart
+record Tests (m : Mesh) : Type 0 where
+  cells : within 1 2048 (m .cells) ≡ true
+  vertexPlaces : length (m .cellVertices) ≡ 3 * m .cells
+  vertices : within 3 4096 (m .vertices) ≡ true
+  vertexBelow : allBelow (m .cellVertices) (m .vertices) ≡ true
+  apart : all (m .cells) (λ i. distinct (m .cellVertices) i) ≡ true
+  edges : within 3 6144 (m .edges) ≡ true
+  edgePlaces : length (m .cellEdges) ≡ 3 * m .cells
+  edgeBelow : allBelow (m .cellEdges) (m .edges) ≡ true
+  rule : edgeRule (m .cellVertices) (m .cellEdges) ≡ true
+
+tests : (m : Mesh) → cellsRight m ≡ true → verticesRight m ≡ true → edgesRight m ≡ true → Tests m
+unfolding cellsRight verticesRight edgesRight
+tests m one two three =
+    let c : Bool = within 1 2048 (m .cells) in
+    let v : Bool = within 3 4096 (m .vertices) in
+    let vb : Bool = allBelow (m .cellVertices) (m .vertices) in
+    let d : Bool = all (m .cells) (λ i. distinct (m .cellVertices) i) in
+    let e : Bool = within 3 6144 (m .edges) in
+    let s : Bool = eqb (length (m .cellEdges)) (3 * m .cells) in
+    let eb : Bool = allBelow (m .cellEdges) (m .edges) in
+    let r : Bool = edgeRule (m .cellVertices) (m .cellEdges) in
+    let sized : e and s and eb ≡ true = and-left (e and s and eb) r three in
+    record {
+      cells = and-left c (eqb (length (m .cellVertices)) (3 * m .cells)) one;
+      vertexPlaces = length-last c (length (m .cellVertices)) (3 * m .cells) one;
+      vertices = and-left v vb (and-left (v and vb) d two);
+      vertexBelow = and-right v vb (and-left (v and vb) d two);
+      apart = and-right (v and vb) d two;
+      edges = and-left e s (and-left (e and s) eb sized);
+      edgePlaces = length-before e (length (m .cellEdges)) (3 * m .cells) eb sized;
+      edgeBelow = and-right (e and s) eb sized;
+      rule = and-right (e and s and eb) r three;
+    }
+
+pub fine : (m : Mesh) → refusal (meshChecks m) ≡ 0 → Fine m
+unfolding edgeRule
+fine m h =
+    let one : (cellsRight m ≡ true) × (refusal (check 2 (verticesRight m) ∷ check 3 (edgesRight m) ∷ []) ≡ 0) = refusal-zero 0 (cellsRight m) _ h in
+    let two : (verticesRight m ≡ true) × (refusal (check 3 (edgesRight m) ∷ []) ≡ 0) = refusal-zero 1 (verticesRight m) _ (one .1) in
+    let three : edgesRight m ≡ true = refusal-zero 2 (edgesRight m) _ (two .1) .0 in
+    let t : Tests m = tests m (one .0) (two .0) three in
+    record {
+      one = within-low 1 2048 (m .cells) (t .cells);
+      fewCells = within-high 1 2048 (m .cells) (t .cells);
+      fewVertices = within-high 3 4096 (m .vertices) (t .vertices);
+      fewEdges = within-high 3 6144 (m .edges) (t .edges);
+      vertexPlaces = t .vertexPlaces;
+      edgePlaces = t .edgePlaces;
+      vertexBelow = λ k l. below-at (m .cellVertices) (m .vertices) (t .vertexBelow) k (omega (arith, t .vertexPlaces));
+      edgeBelow = λ k l. below-at (m .cellEdges) (m .edges) (t .edgeBelow) k (omega (arith, t .edgePlaces));
+      apart = all-at (m .cells) (λ i. distinct (m .cellVertices) i) (t .apart);
+      rule = λ k l lk ll. all-at (length (m .cellEdges)) _ (all-at (length (m .cellEdges)) _ (t .rule) k (omega (arith, t .edgePlaces))) l (omega (arith, t .edgePlaces));
+    }
+
+-- ---- the three vertices of a cell differ, and so do its three edges
+
+three : (p : ℕ) → p < 3 → (p ≡ 0) ⊎ ((p ≡ 1) ⊎ (p ≡ 2))
+three p l = ⊎-elim (λ a. inl (omega arith)) (λ a. ⊎-elim (λ b. inr (inl (omega arith))) (λ b. inr (inr (omega arith))) (lt-or-le p 2)) (lt-or-le p 1)
+
+-- three numbers at 0, 1, 2, no two of which are equal
+differ : (f : ℕ → ℕ) → (f 0 ≡ f 1 → ⊥) → (f 0 ≡ f 2 → ⊥) → (f 1 ≡ f 2 → ⊥) → (p q : ℕ) → p < 3 → q < 3 → f p ≡ f q → p ≡ q
+differ f a b c p q lp lq e = go (three p lp) (three q lq)
+  where
+    go : (p ≡ 0) ⊎ ((p ≡ 1) ⊎ (p ≡ 2)) → (q ≡ 0) ⊎ ((q ≡ 1) ⊎ (q ≡ 2)) → p ≡ q
+    go (inl x) (inl y) = x ∙ sym y
+    go (inl x) (inr (inl y)) = absurd (a (ap f (sym x) ∙ e ∙ ap f y))
+    go (inl x) (inr (inr y)) = absurd (b (ap f (sym x) ∙ e ∙ ap f y))
+    go (inr (inl x)) (inl y) = absurd (a (ap f (sym y) ∙ sym e ∙ ap f x))
+    go (inr (inl x)) (inr (inl y)) = x ∙ sym y
+    go (inr (inl x)) (inr (inr y)) = absurd (c (ap f (sym x) ∙ e ∙ ap f y))
+    go (inr (inr x)) (inl y) = absurd (b (ap f (sym y) ∙ sym e ∙ ap f x))
+    go (inr (inr x)) (inr (inl y)) = absurd (c (ap f (sym y) ∙ sym e ∙ ap f x))
+    go (inr (inr x)) (inr (inr y)) = x ∙ sym y
+
+pub vertices-differ : (vs : List ℕ) (i : ℕ) → distinct vs i ≡ true → (p q : ℕ) → p < 3 → q < 3 → entity vs i p ≡ entity vs i q → p ≡ q
+unfolding distinct
+vertices-differ vs i h =
+    differ (λ p. entity vs i p) (eqb-false _ _ (or-no-left a b (or-no-left (a or b) c none))) (eqb-false _ _ (or-no-right a b (or-no-left (a or b) c none)))
+    (eqb-false _ _ (or-no-right (a or b) c none))
+  where
+    a : Bool
+    a = eqb (entity vs i 0) (entity vs i 1)
+
+    b : Bool
+    b = eqb (entity vs i 0) (entity vs i 2)
+
+    c : Bool
+    c = eqb (entity vs i 1) (entity vs i 2)
+
+    none : (a or b) or c ≡ false
+    none = not-true ((a or b) or c) h
+
+same-two-cases : (a b c d : ℕ) → sameTwo a b c d ≡ true → ((a ≡ c) × (b ≡ d)) ⊎ ((a ≡ d) × (b ≡ c))
+unfolding sameTwo
+same-two-cases a b c d h =
+    ⊎-elim (λ e. inl (eqb-true a c (and-left (eqb a c) (eqb b d) e), eqb-true b d (and-right (eqb a c) (eqb b d) e)))
+    (λ e. inr (eqb-true a d (and-left (eqb a d) (eqb b c) e), eqb-true b c (and-right (eqb a d) (eqb b c) e)))
+    (or-cases (eqb a c and eqb b d) (eqb a d and eqb b c) h)
+
+-- the ends of a local edge are two of the three places, and their sum tells it from the others
+choice-below : (b : Bool) (x y n : ℕ) → x < n → y < n → cond b x y < n
+choice-below true x y n lx ly = lx
+choice-below false x y n lx ly = ly
+
+first-below : (p : ℕ) → firstEnd p < 3
+first-below p = choice-below (eqb p 0) 1 0 3 (omega arith) (omega arith)
+
+second-below : (p : ℕ) → secondEnd p < 3
+second-below p = choice-below (eqb p 2) 1 2 3 (omega arith) (omega arith)
+
+ends-sum : (p : ℕ) → p < 3 → firstEnd p + secondEnd p + p ≡ 3
+ends-sum zero l = refl
+ends-sum (suc zero) l = refl
+ends-sum (suc (suc zero)) l = refl
+ends-sum (suc (suc (suc p))) l = absurd (omega arith)
+
+module _ (m : Mesh) (h : Fine m) (i : ℕ) (l : i < m .cells) (p q : ℕ) (lp : p < 3) (lq : q < 3) where
+  vertex : ℕ → ℕ
+  vertex k = entity (m .cellVertices) i k
+
+  same-ends : entity (m .cellEdges) i p ≡ entity (m .cellEdges) i q → sameTwo (vertex (firstEnd p)) (vertex (secondEnd p)) (vertex (firstEnd q)) (vertex (secondEnd q)) ≡ true
+  unfolding vertex
+  same-ends e =
+      sym (iff-sides (eqb (entity (m .cellEdges) i p) (entity (m .cellEdges) i q)) _ (sym (place-at (m .cellVertices) (m .cellEdges) i p i q lp lq) ∙ h .rule (3 * i + p) (3 * i + q) (omega arith) (omega arith)))
+      ∙ eq-eqb (entity (m .cellEdges) i p) (entity (m .cellEdges) i q) e
+
+  same-place : (x y : ℕ) → x < 3 → y < 3 → vertex x ≡ vertex y → x ≡ y
+  unfolding vertex
+  same-place = vertices-differ (m .cellVertices) i (h .apart i l)
+
+  pub edges-differ : entity (m .cellEdges) i p ≡ entity (m .cellEdges) i q → p ≡ q
+  edges-differ e =
+      let sum : firstEnd p + secondEnd p ≡ firstEnd q + secondEnd q =
+      ⊎-elim (λ w. ap₂ _+_ (same-place _ _ (first-below p) (first-below q) (w .0)) (same-place _ _ (second-below p) (second-below q) (w .1)))
+      (λ w. ap₂ _+_ (same-place _ _ (first-below p) (second-below q) (w .0)) (same-place _ _ (second-below p) (first-below q) (w .1))
+      ∙ add-comm (secondEnd q) (firstEnd q))
+      (same-two-cases _ _ _ _ (same-ends e)) in
+      omega (arith, ends-sum p lp, ends-sum q lq)
+
+-- ---- cells that share an entity
+
+-- x is at a place of cell i, and what is at a place is one of the three
+pub has-place : (l : List ℕ) (i x : ℕ) → has l i x ≡ true → (p : ℕ) × (p < 3) × (entity l i p ≡ x)
+unfolding has
+has-place l i x h =
+    let w : (p : ℕ) × (p < 3) × (eqb (entity l i p) x ≡ true) = some-which 3 (λ p. eqb (entity l i p) x) h in
+    (w .0, w .1, eqb-true (entity l i (w .0)) x (w .2))
+
+pub has-at : (l : List ℕ) (i p x : ℕ) → p < 3 → entity l i p ≡ x → has l i x ≡ true
+unfolding has
+has-at l i p x h e = some-at 3 (λ p. eqb (entity l i p) x) p h (eq-eqb (entity l i p) x e)
+
+-- two cells share an entity exactly where both have one
+pub share-which : (l : List ℕ) (i j : ℕ) → share l i j ≡ true → (x : ℕ) × (has l i x ≡ true) × (has l j x ≡ true)
+unfolding share
+share-which l i j h =
+    let w : (p : ℕ) × (p < 3) × (has l j (entity l i p) ≡ true) = some-which 3 (λ p. has l j (entity l i p)) h in
+    (entity l i (w .0), has-at l i (w .0) (entity l i (w .0)) (w .1) refl, w .2)
+
+pub share-at : (l : List ℕ) (i j x : ℕ) → has l i x ≡ true → has l j x ≡ true → share l i j ≡ true
+unfolding share
+share-at l i j x hi hj =
+    let w : (p : ℕ) × (p < 3) × (entity l i p ≡ x) = has-place l i x hi in
+    some-at 3 (λ p. has l j (entity l i p)) (w .0) (w .1) (subst (λ (y : ℕ). has l j y ≡ true) (sym (w .2)) hj)
+
+share-turned : (l : List ℕ) (i j : ℕ) → share l i j ≡ true → share l j i ≡ true
+share-turned l i j h =
+    let w : (x : ℕ) × (has l i x ≡ true) × (has l j x ≡ true) = share-which l i j h in
+    share-at l j i (w .0) (w .2) (w .1)
+
+pub share-sym : (l : List ℕ) (i j : ℕ) → share l i j ≡ share l j i
+share-sym l i j = same-test (share l i j) (share l j i) (share-turned l i j) (share-turned l j i)
+
+pub share-self : (l : List ℕ) (i : ℕ) → share l i i ≡ true
+share-self l i = share-at l i i (entity l i 0) (has-at l i 0 (entity l i 0) (omega arith) refl) (has-at l i 0 (entity l i 0) (omega arith) refl)

@@ -1,0 +1,112 @@
+// Checks 1 to 3 of a mesh, in their order.
+use crate::edge_rule::keeps_edge_rule;
+use crate::is_within;
+ghost use mathlib.Core.Path.{_≡_};
+ghost use Prim.Native.Nat.{_+_, _*_, _≤_};
+ghost use lib.ListN.{length};
+ghost use lib.Dec.{eqb};
+ghost use Rattle.lists.specs.Bool.{_and_};
+ghost use Rattle.lists.specs.Bounded.{all};
+ghost use Rattle.lists.specs.Refusals.{refusal};
+ghost use Rattle.grid.specs.Mesh.{within, allBelow, distinct, edgeRule, meshChecks};
+
+// Whether each number of the list is below the bound.
+pub fn all_below(list: &[u32], bound: u32) -> bool
+    ensures { λ r. ⌜ r ≡ allBelow (now (list .entry)) bound ⌝ }
+{
+    let mut k = 0;
+    while k < list.len() {
+        if list[k] < bound {
+            k += 1;
+        } else {
+            return false;
+        }
+    }
+    true
+}
+
+// Whether no vertex stands twice in the cell.
+fn is_distinct(vertices: &[u32], cell: usize) -> bool
+    requires { ⌜ 3 * cell + 3 ≤ length (now vertices) ⌝ }
+    ensures { λ r. ⌜ r ≡ distinct (now (vertices .entry)) cell ⌝ }
+{
+    let at = 3 * cell;
+    let a = vertices[at];
+    let b = vertices[at + 1];
+    let c = vertices[at + 2];
+    !((a == b) | (a == c) | (b == c))
+}
+
+fn all_distinct(vertices: &[u32], cells: usize) -> bool
+    requires { ⌜ length (now vertices) ≡ 3 * cells ⌝ }
+    ensures { λ r. ⌜ r ≡ all cells (λ i. distinct (now (vertices .entry)) i) ⌝ }
+{
+    let mut i = 0;
+    while i < cells {
+        if is_distinct(vertices, i) {
+            i += 1;
+        } else {
+            return false;
+        }
+    }
+    true
+}
+
+// Check 1.
+fn cells_right(cells: u32, cell_vertices: &[u32]) -> bool
+    ensures { λ r. ⌜ r ≡ (within 1 2048 cells and eqb (length (now («cell_vertices» .entry))) (3 * cells)) ⌝ }
+{
+    is_within(1, 2048, cells as u64) & (cell_vertices.len() == 3 * (cells as usize))
+}
+
+// Check 2, of a mesh that passes check 1.
+fn vertices_right(cells: u32, vertices: u32, cell_vertices: &[u32]) -> bool
+    requires { ⌜ length (now «cell_vertices») ≡ 3 * cells ⌝ }
+    ensures { λ r. ⌜ r ≡ (within 3 4096 vertices and allBelow (now («cell_vertices» .entry)) vertices and all cells (λ i. distinct (now («cell_vertices» .entry)) i)) ⌝ }
+{
+    is_within(3, 4096, vertices as u64)
+        & all_below(cell_vertices, vertices)
+        & all_distinct(cell_vertices, cells as usize)
+}
+
+// Check 3 but for the edge rule.
+fn edges_sized(cells: u32, edges: u32, cell_edges: &[u32]) -> bool
+    ensures { λ r. ⌜ r ≡ (within 3 6144 edges and eqb (length (now («cell_edges» .entry))) (3 * cells) and allBelow (now («cell_edges» .entry)) edges) ⌝ }
+{
+    is_within(3, 6144, edges as u64)
+        & (cell_edges.len() == 3 * (cells as usize))
+        & all_below(cell_edges, edges)
+}
+
+// Check 3, of a mesh that passes check 1.
+fn edges_right(cells: u32, edges: u32, cell_vertices: &[u32], cell_edges: &[u32]) -> bool
+    requires { ⌜ length (now «cell_vertices») ≡ 3 * cells ⌝ }
+    ensures { λ r. ⌜ r ≡ (within 3 6144 edges and eqb (length (now («cell_edges» .entry))) (3 * cells) and allBelow (now («cell_edges» .entry)) edges and edgeRule (now («cell_vertices» .entry)) (now («cell_edges» .entry))) ⌝ }
+{
+    if edges_sized(cells, edges, cell_edges) {
+        keeps_edge_rule(cell_vertices, cell_edges, cells as usize)
+    } else {
+        false
+    }
+}
+
+// The number of the first of checks 1 to 3 that turns the mesh down, or 0.
+pub fn mesh_refusal(
+    cells: u32,
+    vertices: u32,
+    edges: u32,
+    cell_vertices: &[u32],
+    cell_edges: &[u32],
+) -> u32
+    ensures { λ r. ⌜ r ≡ refusal (meshChecks (record { cells = cells; vertices = vertices; edges = edges; cellVertices = now («cell_vertices» .entry); cellEdges = now («cell_edges» .entry) })) ⌝ }
+{
+    if !cells_right(cells, cell_vertices) {
+        1
+    } else if !vertices_right(cells, vertices, cell_vertices) {
+        2
+    } else if !edges_right(cells, edges, cell_vertices, cell_edges) {
+        3
+    } else {
+        0
+    }
+}
