@@ -16,6 +16,7 @@ use Rattle.lists.specs.Bounded.{all-of, lt-or-le}
 use Rattle.grid.specs.Mesh.{allBelow, cellsRight, verticesRight, edgesRight}
 use Rattle.function.specs.Elements.{dim}
 use Rattle.function.specs.Numbering.{Space, dofList, dofCount}
+use Rattle.function.specs.NumberingPromises.{dof-list-length, dof-count-le, dof-below}
 use Rattle.function.specs.Colours.{colourList}
 use Rattle.cell_pairs.specs.WorkList.{Rec, rec, flat, distantPairs}
 use Rattle.cell_pairs.specs.WorkRecords.{Distant, Touching}
@@ -60,12 +61,6 @@ far-touching q e = lt-leb q 27 (omega arith)
 
 -- ---- DOFs
 
--- what the numbering of an element ensures
-pub record Numbered (s : Space) (C : ℕ) : Type 0 where
-  pub long : length (dofList s C) ≡ C * dim (s .element)
-  pub below : (k : ℕ) → k < C * dim (s .element) → getD (dofList s C) k 0 < dofCount s C
-  pub few : dofCount s C ≤ C * dim (s .element)
-
 -- the DOFs of a cell in the DOF list
 pub cell-dof : (dofs : List ℕ) (d i k : ℕ) → k < d → getD (cellDofs dofs d i) k 0 ≡ getD dofs (d * i + k) 0
 unfolding cellDofs
@@ -76,18 +71,18 @@ unfolding cellDofs
 length-cell dofs d i = omega (arith, length-take d (drop (d * i) dofs))
 
 -- are below the count
-cell-below : (s : Space) (C i : ℕ) → Numbered s C → i < C → allBelow (cellDofs (dofList s C) (dim (s .element)) i) (dofCount s C) ≡ true
+cell-below : (s : Space) (C i : ℕ) → i < C → allBelow (cellDofs (dofList s C) (dim (s .element)) i) (dofCount s C) ≡ true
 unfolding allBelow
-cell-below s C i n h =
+cell-below s C i h =
     all-of (length (cellDofs (dofList s C) (dim (s .element)) i)) (λ k. ltb (getD (cellDofs (dofList s C) (dim (s .element)) i) k 0) (dofCount s C)) one
   where
     one : (k : ℕ) → k < length (cellDofs (dofList s C) (dim (s .element)) i) → ltb (getD (cellDofs (dofList s C) (dim (s .element)) i) k 0) (dofCount s C) ≡ true
     one k l =
         let inside : k < dim (s .element) = omega (arith, length-cell (dofList s C) (dim (s .element)) i) in
         let place : dim (s .element) * i + k < C * dim (s .element) = rw (mul-comm C (dim (s .element))) (omega (arith, mul-le-mul-left (dim (s .element)) h)) in
-        rw (cell-dof (dofList s C) (dim (s .element)) i k inside) (lt-ltb _ _ (n .below (dim (s .element) * i + k) place))
+        rw (cell-dof (dofList s C) (dim (s .element)) i k inside) (lt-ltb _ _ (dof-below s C (dim (s .element) * i + k) place))
 
-module _ (x : Planning) (l : Lists) (ok : Accepted x l) (test : Numbered (testSpace x) (x .mesh .cells)) (trial : Numbered (trialSpace x) (x .mesh .cells))
+module _ (x : Planning) (l : Lists) (ok : Accepted x l)
     (counts : Countable (x .mesh) (x .batch) (colourList (testSpace x) (x .mesh .cells)) (colourList (trialSpace x) (x .mesh .cells))) where
   abbrev C : ℕ
   C = x .mesh .cells
@@ -111,15 +106,15 @@ module _ (x : Planning) (l : Lists) (ok : Accepted x l) (test : Numbered (testSp
       (le-leb _ _ h)
       (le-leb _ _ most))
       (or-left _ _ refl))
-      (le-leb _ _ (test .few)))
-      (le-leb _ _ (trial .few))
+      (le-leb _ _ (dof-count-le (testSpace x) C)))
+      (le-leb _ _ (dof-count-le (trialSpace x) C))
 
   -- 21: the plan's lengths
   plan-right : (p : ℕ) → planRight (runAt x p) (planOf x) ≡ true
   unfolding planRight runAt planNumbers planOf
   plan-right p =
       let all-pairs : length (flat (workRecords x)) ≡ 3 * pairCount x = length-flat (workRecords x) ∙ ap (λ (n : ℕ). 3 * n) (length-work (x .mesh) (x .batch) _ _ counts) in
-      and-both _ _ (and-both _ _ (eq-eqb _ _ (test .long)) (eq-eqb _ _ (trial .long))) (eq-eqb _ _ all-pairs)
+      and-both _ _ (and-both _ _ (eq-eqb _ _ (dof-list-length (testSpace x) C)) (eq-eqb _ _ (dof-list-length (trialSpace x) C))) (eq-eqb _ _ all-pairs)
 
   module _ (p : ℕ) (below : p < pairCount x) where
     inside : p < length (workRecords x)
@@ -164,11 +159,11 @@ module _ (x : Planning) (l : Lists) (ok : Accepted x l) (test : Numbered (testSp
     -- the DOFs of its cells
     test-dofs : recordNo x p .test < C → allBelow (cellDofs (planOf x .testDofs) (dim (x .test)) (recordAt (planOf x .work) p .«test_cell»)) (dofCount (testSpace x) C) ≡ true
     unfolding planOf
-    test-dofs h = rw test-is (cell-below (testSpace x) C (recordNo x p .test) test h)
+    test-dofs h = rw test-is (cell-below (testSpace x) C (recordNo x p .test) h)
 
     trial-dofs : recordNo x p .trial < C → allBelow (cellDofs (planOf x .trialDofs) (dim (x .trial)) (recordAt (planOf x .work) p .«trial_cell»)) (dofCount (trialSpace x) C) ≡ true
     unfolding planOf
-    trial-dofs h = rw trial-is (cell-below (trialSpace x) C (recordNo x p .trial) trial h)
+    trial-dofs h = rw trial-is (cell-below (trialSpace x) C (recordNo x p .trial) h)
 
     -- 22
     record-right : recordRight (runAt x p) (planOf x) ≡ true

@@ -3,3 +3,6 @@ pub mod Elements
 pub mod Numbering
 pub mod Colours
 pub mod Examples
+pub mod NumberingFacts
+pub mod NumberingWalk
+pub mod NumberingPromises

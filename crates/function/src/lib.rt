@@ -2,6 +2,8 @@
 ghost use mathlib.Core.Path.{_≡_};
 ghost use Rattle.function.specs.Elements.{dim};
 
+pub mod numbering; // numbering.rt: assign_dofs
+
 // DOFs per vertex (a), per edge (b) and per cell (c).
 pub struct Element {
     pub a: u32,
