@@ -53,7 +53,7 @@ listsFor x =
 
 -- an element on the mesh
 abbrev pub spaceOn : Mesh → Element → Space
-spaceOn m e = record { vertices = m .cellVertices; edges = m .cellEdges; element = e }
+spaceOn m e = record { cellVertices = m .cellVertices; cellEdges = m .cellEdges; element = e }
 
 abbrev pub testSpace : Planning → Space
 testSpace x = spaceOn (x .mesh) (x .test)

@@ -20,7 +20,7 @@ opened-cell-pairs = tt
 -- the work list where both elements have a = 1
 abbrev records : Mesh → ℕ → List Rec
 records m B =
-    let space : Space = record { vertices = m .cellVertices; edges = m .cellEdges; element = element 1 0 0 } in
+    let space : Space = record { cellVertices = m .cellVertices; cellEdges = m .cellEdges; element = element 1 0 0 } in
     workList m B (colourList space (m .cells)) (colourList space (m .cells))
 
 -- M4: both elements a = 1, batch 2

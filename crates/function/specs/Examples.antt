@@ -19,7 +19,7 @@ element a b c = record { a = a; b = b; c = c }
 
 -- the element on M
 abbrev onM : Element → Space
-onM e = record { vertices = M .cellVertices; edges = M .cellEdges; element = e }
+onM e = record { cellVertices = M .cellVertices; cellEdges = M .cellEdges; element = e }
 
 -- M1: a = 1: colours 0, 1, 0; DOFs (0,1,2), (1,3,2), (4,5,6)
 abbrev pub M1-colours : Example

@@ -14,8 +14,8 @@ use Rattle.function.specs.declared.Element.{Element}
 
 -- A function space: the vertex list and the edge list of a mesh, and an element on it
 pub record Space : Type 0 where
-  pub vertices : List ℕ
-  pub edges : List ℕ
+  pub cellVertices : List ℕ
+  pub cellEdges : List ℕ
   pub element : Element
 
 -- by a place in a cell: x for a vertex, y for an edge, z for the interior
@@ -27,7 +27,7 @@ unfoldable pub dimensionOf : ℕ → ℕ
 dimensionOf k = byPlace (k % 7) 0 1 2
 
 unfoldable pub entityOf : Space → ℕ → ℕ
-entityOf s k = byPlace (k % 7) (entity (s .vertices) (k / 7) (k % 7)) (entity (s .edges) (k / 7) (k % 7 - 3)) (k / 7)
+entityOf s k = byPlace (k % 7) (entity (s .cellVertices) (k / 7) (k % 7)) (entity (s .cellEdges) (k / 7) (k % 7 - 3)) (k / 7)
 
 unfoldable pub dofsOn : Space → ℕ → ℕ
 dofsOn s k = byPlace (k % 7) (s .element .a) (s .element .b) (s .element .c)

@@ -105,8 +105,8 @@ visit-of s t l b =
     (r .0, omega arith, r .3, r .4)
 
 data Place (s : Space) (k : ℕ) : Type 0 where
-  vertex : k % 7 < 3 → dimensionOf k ≡ 0 → entityOf s k ≡ entity (s .vertices) (k / 7) (k % 7) → Place s k
-  edge : 3 ≤ k % 7 → k % 7 < 6 → dimensionOf k ≡ 1 → entityOf s k ≡ entity (s .edges) (k / 7) (k % 7 - 3) → Place s k
+  vertex : k % 7 < 3 → dimensionOf k ≡ 0 → entityOf s k ≡ entity (s .cellVertices) (k / 7) (k % 7) → Place s k
+  edge : 3 ≤ k % 7 → k % 7 < 6 → dimensionOf k ≡ 1 → entityOf s k ≡ entity (s .cellEdges) (k / 7) (k % 7 - 3) → Place s k
   inside : 6 ≤ k % 7 → dimensionOf k ≡ 2 → Place s k
 
 place : (s : Space) (k : ℕ) → Place s k
@@ -126,7 +126,7 @@ Distinct l i = (p q : ℕ) → p < 3 → q < 3 → (p ≡ q → ⊥) → entity 
 one-place : (l : List ℕ) (i : ℕ) → Distinct l i → (p q : ℕ) → p < 3 → q < 3 → entity l i p ≡ entity l i q → p ≡ q
 one-place l i h p q hp hq e = ⊎-elim (λ z. z) (λ n. absurd (h p q hp hq n e)) (eq-or-ne p q)
 
-module _ (s : Space) (t : ℕ) (vs : Distinct (s .vertices) t) (es : Distinct (s .edges) t) where
+module _ (s : Space) (t : ℕ) (vs : Distinct (s .cellVertices) t) (es : Distinct (s .cellEdges) t) where
   -- two visits of the cell meet two entities
   visits-apart : (j k : ℕ) → j / 7 ≡ t → k / 7 ≡ t → sameEntity s j k ≡ true → j ≡ k
   visits-apart j k tj tk q = go (place s j) (place s k)
@@ -139,12 +139,12 @@ module _ (s : Space) (t : ℕ) (vs : Distinct (s .vertices) t) (es : Distinct (s
 
       go : Place s j → Place s k → j ≡ k
       go (vertex a f g) (vertex a′ f′ g′) =
-          let z : j % 7 ≡ k % 7 = one-place (s .vertices) t vs (j % 7) (k % 7) a a′ (rw (← tj) (sym g) ∙ x ∙ rw (← tk) g′) in omega arith
+          let z : j % 7 ≡ k % 7 = one-place (s .cellVertices) t vs (j % 7) (k % 7) a a′ (rw (← tj) (sym g) ∙ x ∙ rw (← tk) g′) in omega arith
       go (vertex a f g) (edge a′ b′ f′ g′) = absurd (lt-irrefl 0 (omega (arith, d)))
       go (vertex a f g) (inside a′ f′) = absurd (lt-irrefl 0 (omega (arith, d)))
       go (edge a b f g) (vertex a′ f′ g′) = absurd (lt-irrefl 0 (omega (arith, d)))
       go (edge a m f g) (edge a′ m′ f′ g′) =
-          let z : j % 7 - 3 ≡ k % 7 - 3 = one-place (s .edges) t es (j % 7 - 3) (k % 7 - 3) (omega arith) (omega arith) (rw (← tj) (sym g) ∙ x ∙ rw (← tk) g′) in omega arith
+          let z : j % 7 - 3 ≡ k % 7 - 3 = one-place (s .cellEdges) t es (j % 7 - 3) (k % 7 - 3) (omega arith) (omega arith) (rw (← tj) (sym g) ∙ x ∙ rw (← tk) g′) in omega arith
       go (edge a b f g) (inside a′ f′) = absurd (lt-irrefl 0 (omega (arith, d)))
       go (inside a f) (vertex a′ f′ g′) = absurd (lt-irrefl 0 (omega (arith, d)))
       go (inside a f) (edge a′ b′ f′ g′) = absurd (lt-irrefl 0 (omega (arith, d)))

@@ -23,16 +23,16 @@ use Rattle.function.specs.NumberingFacts.{length-upFrom, length-ownersOn
 -- ---- what `assign_dofs` asks
 
 abbrev pub space : List ℕ → List ℕ → Element → Space
-space vertices edges element = record { vertices = vertices; edges = edges; element = element }
+space vertices edges element = record { cellVertices = vertices; cellEdges = edges; element = element }
 
 -- lists of C cells, with numbers within the largest mesh, and at most 10 local DOFs
 pub record Sized (s : Space) (C : ℕ) : Type 0 where
   pub few : C ≤ 2048
-  pub vertices-long : length (s .vertices) ≡ 3 * C
-  pub edges-long : length (s .edges) ≡ 3 * C
+  pub vertices-long : length (s .cellVertices) ≡ 3 * C
+  pub edges-long : length (s .cellEdges) ≡ 3 * C
   pub small : dim (s .element) ≤ 10
-  pub vertices-below : (p : ℕ) → p < 3 * C → getD (s .vertices) p 0 < 4096
-  pub edges-below : (p : ℕ) → p < 3 * C → getD (s .edges) p 0 < 6144
+  pub vertices-below : (p : ℕ) → p < 3 * C → getD (s .cellVertices) p 0 < 4096
+  pub edges-below : (p : ℕ) → p < 3 * C → getD (s .cellEdges) p 0 < 6144
 
 -- ---- what its parts answer
 
@@ -271,7 +271,7 @@ module _ (s : Space) (C : ℕ) (h : Sized s C) {k : ℕ} {dofs₀ owners₀ met 
 -- ---- a turn of the loop, with the numbers that the program has at hand: slot i, dimension d, entity x and m DOFs
 
 module _ (s : Space) (C k : ℕ) {dofs₀ owners₀ met dofs owners : List ℕ} {at next i d x m : ℕ} (h : Sized s C) (b : k < 7 * C)
-    (w : Walked s k dofs₀ owners₀ met dofs owners at next) (dims : d ≡ dimensionOf k) (ents : x ≡ entityAt (s .vertices) (s .edges) k)
+    (w : Walked s k dofs₀ owners₀ met dofs owners at next) (dims : d ≡ dimensionOf k) (ents : x ≡ entityAt (s .cellVertices) (s .cellEdges) k)
     (slots : i ≡ slot d x) (counts : m ≡ dofsAt (s .element) k) where
   entity-is : x ≡ entityOf s k
   unfolding entityOf

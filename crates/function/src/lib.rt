@@ -2,7 +2,11 @@
 ghost use mathlib.Core.Path.{_≡_};
 ghost use Rattle.function.specs.Elements.{dim};
 
-pub mod numbering; // numbering.rt: assign_dofs
+mod colouring;
+mod numbering;
+
+pub use colouring::cell_colouring;
+pub use numbering::assign_dofs;
 
 // DOFs per vertex (a), per edge (b) and per cell (c).
 pub struct Element {

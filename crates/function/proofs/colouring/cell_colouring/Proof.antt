@@ -1,0 +1,23 @@
+-- `function::colouring::cell_colouring` meets its contract, by those of its two calls. Assumes nothing.
+use mathlib.Core.Path.{ap, _∙_}
+use Rattle.function.specs.Colours.{colourCount}
+use Rattle.function.specs.ColoursFacts.{colours-low}
+use borrow.Author.Needs.{needs}
+use Rattle.function.proofs.colouring.cell_colouring.Statement.{statement}
+use Rattle.function.proofs.colouring.cell_colouring.Tie as tie
+
+colour-by-dimension-requires : tie.Need-colour-by-dimension-requires
+colour-by-dimension-requires c κs = search needs
+
+count-colours-requires : tie.Need-count-colours-requires
+count-colours-requires c κs = colours-low _ _ _ (search needs) (c .before .before .before .colour-by-dimension .ensures)
+
+same-length : tie.Need-same-length
+same-length c = search needs
+
+returns : tie.Need-returns
+returns c = (c .before .before .before .before .colour-by-dimension .ensures, c .count-colours .ensures ∙ ap colourCount (c .before .before .before .before .colour-by-dimension .ensures))
+
+pub cell-colouring-spec : {M : Type 1} → statement M
+cell-colouring-spec =
+    tie.close (tie.spec colour-by-dimension-requires count-colours-requires same-length returns)
