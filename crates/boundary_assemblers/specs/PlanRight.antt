@@ -10,7 +10,8 @@ use mathlib.Core.List.{List, [], _∷_}
 use lib.ListN.{length, getD, drop, length-take}
 use lib.Seq.{getD-take, getD-drop}
 use lib.Dec.{ltb}
-use borrow.Author.Tests.{le-leb, lt-leb, lt-ltb, eq-eqb, ne-eqb}
+use lib.Ieee.{Float}
+use borrow.Author.Tests.{leb-true, le-leb, lt-leb, lt-ltb, eq-eqb, ne-eqb}
 use Rattle.lists.specs.Bool.{_or_, and-both, and-left, or-left, or-right}
 use Rattle.lists.specs.Bounded.{all-of, lt-or-le}
 use Rattle.grid.specs.Mesh.{allBelow, cellsRight, verticesRight, edgesRight}
@@ -18,13 +19,16 @@ use Rattle.function.specs.Elements.{dim}
 use Rattle.function.specs.Numbering.{Space, dofList, dofCount}
 use Rattle.function.specs.NumberingPromises.{dof-list-length, dof-count-le, dof-below}
 use Rattle.function.specs.Colours.{colourList}
+use Rattle.function.specs.ColoursPromises.{colours-long}
 use Rattle.cell_pairs.specs.WorkList.{Rec, rec, flat, distantPairs}
 use Rattle.cell_pairs.specs.WorkRecords.{Distant, Touching}
-use Rattle.cell_pairs.specs.Counting.{Countable, split, length-work, record-distant, record-touching, records-right}
-use Rattle.boundary_assemblers.specs.Planning.{Planning, Lists, planNumbers, testSpace, trialSpace, workRecords}
-use Rattle.boundary_assemblers.specs.Accepted.{Accepted}
-use Rattle.boundary_assemblers.specs.Runs.{recordAt, cellDofs, isTouching, isDistant, rangesRight, placesRight, planRight, recordRight}
-use Rattle.boundary_assemblers.specs.Whole.{Right, planOf, runAt, pairCount, recordNo, touches}
+use Rattle.cell_pairs.specs.Counting.{Countable, countable, split, length-work, record-distant, record-touching, records-right}
+use Rattle.boundary_assemblers.specs.Planning.{Planning, Lists, batchRight, planRefusal, planLists, writtenLists, planNumbers, testSpace, trialSpace, workRecords}
+use Rattle.boundary_assemblers.specs.Accepted.{Accepted, accepted}
+use Rattle.boundary_assemblers.specs.Runs.{begin, recordAt, cellDofs, isTouching, isDistant, rangesRight, placesRight, planRight, recordRight}
+use Rattle.boundary_assemblers.specs.Machine.{machineOf, machineRun, Call}
+use Rattle.boundary_assemblers.specs.Calls.{callAll}
+use Rattle.boundary_assemblers.specs.Whole.{Right, whole, embed, planOf, runAt, pairCount, recordNo, touches}
 
 -- ---- records as numbers
 
@@ -191,3 +195,28 @@ module _ (x : Planning) (l : Lists) (ok : Accepted x l)
         distant = distant-is;
         touching = touching-is;
       }
+
+-- ---- the third property, from what planning accepts
+
+-- the counting theorem's hypotheses
+pub counted : (x : Planning) (l : Lists) → Accepted x l
+    → Countable (x .mesh) (x .batch) (colourList (testSpace x) (x .mesh .cells)) (colourList (trialSpace x) (x .mesh .cells))
+unfolding batchRight
+counted x l ok =
+    countable (x .mesh) (x .batch) _ _ (ok .cells) (ok .vertices) (ok .patterns) (leb-true 1 (x .batch) (and-left _ _ (ok .batch)))
+    (colours-long (testSpace x) (x .mesh .cells)) (colours-long (trialSpace x) (x .mesh .cells))
+
+-- the plan that planning leaves in the lists
+pub plan-left : (x : Planning) (l : Lists) → planRefusal x l ≡ 0
+    → record { testDofs = planLists x l .testDofs; trialDofs = planLists x l .trialDofs; work = planLists x l .work } ≡ planOf x
+unfolding planLists writtenLists planOf
+plan-left x l e = rw e
+
+-- For all planning arguments that planning accepts, every starting matrix and every list of calls: folding what the contracts of look, add_distant and
+-- add_touching say, from planning's numbers and lists, gives the answers, the position and the matrix of the machine of the mesh
+pub third-property : (x : Planning) (l : Lists) → planRefusal x l ≡ 0 → (calls : List Call) (M : List Float)
+    → callAll (record { testDofs = planLists x l .testDofs; trialDofs = planLists x l .trialDofs; work = planLists x l .work }) calls (begin (planNumbers x)) M
+    ≡ embed x (machineRun (machineOf x) calls M)
+third-property x l e calls M =
+    let ok : Accepted x l = accepted x l e in
+    rw (plan-left x l e) (whole x (right x l ok (counted x l ok)) calls M)
