@@ -1,4 +1,6 @@
 // Planning, and the run.
+mod calls;
+
 use function::Element;
 use integrands::Integrand;
 

@@ -1,6 +1,7 @@
 // Elements on a mesh: DOF numbers and colours.
+use grid::wide;
 ghost use mathlib.Core.Path.{_≡_};
-ghost use Rattle.function.specs.Elements.{dim};
+ghost use Rattle.function.specs.Elements.{dim, dimsRight};
 
 mod colouring;
 mod numbering;
@@ -15,18 +16,20 @@ pub struct Element {
     pub c: u32,
 }
 
-// A u32 as a u64: asks no proof that the number fits where it is called.
-fn wide(x: u32) -> u64
-    ensures { λ r. ⌜ r ≡ x ⌝ }
-{
-    x as u64
-}
-
 impl Element {
     // The local DOFs of a cell. Of any three u32 the sum fits.
-    pub fn dim(self) -> u64
+    pub fn dim(self) -> usize
         ensures { λ r. ⌜ r ≡ dim self ⌝ }
     {
         3 * wide(self.a) + 3 * wide(self.b) + wide(self.c)
     }
+}
+
+// Check 4: both dims are from 1 to 10.
+pub fn dims_right(test: Element, trial: Element) -> bool
+    ensures { λ r. ⌜ r ≡ dimsRight test trial ⌝ }
+{
+    let m = test.dim();
+    let n = trial.dim();
+    ((1 <= m) & (m <= 10)) & ((1 <= n) & (n <= 10))
 }

@@ -1,7 +1,9 @@
 // The mesh: checks 1 to 3 (`checks`), and which cells share a vertex.
-pub mod checks;
+mod checks;
 mod edge_rule;
 
+pub use checks::all_below;
+pub use checks::mesh_refusal;
 ghost use mathlib.Core.Path.{_≡_};
 ghost use Prim.Native.Nat.{_+_, _*_, _≤_};
 ghost use lib.ListN.{length};

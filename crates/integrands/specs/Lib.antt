@@ -2,4 +2,5 @@
 pub mod Floats
 pub mod Terms
 pub mod Values
+pub mod TermFacts
 pub mod Examples

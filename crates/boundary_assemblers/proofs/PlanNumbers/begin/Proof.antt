@@ -1,0 +1,12 @@
+-- `boundary_assemblers::PlanNumbers::begin` meets its contract. Assumes nothing.
+use mathlib.Core.Path.{refl}
+use Rattle.boundary_assemblers.specs.Runs.{begin}
+use Rattle.boundary_assemblers.proofs.PlanNumbers.begin.Statement.{statement}
+use Rattle.boundary_assemblers.proofs.PlanNumbers.begin.Tie as tie
+
+returns : tie.Need-returns
+unfolding begin
+returns c = refl
+
+pub begin-spec : {M : Type 1} → statement M
+begin-spec = tie.close (tie.spec returns)

@@ -1,0 +1,12 @@
+-- `boundary_assemblers::PlanNumbers::begin_entries` meets its contract. Assumes nothing.
+use mathlib.Core.Path.{refl}
+use Rattle.boundary_assemblers.specs.Runs.{beginEntries}
+use Rattle.boundary_assemblers.proofs.PlanNumbers.begin_entries.Statement.{statement}
+use Rattle.boundary_assemblers.proofs.PlanNumbers.begin_entries.Tie as tie
+
+returns : tie.Need-returns
+unfolding beginEntries
+returns c = refl
+
+pub begin-entries-spec : {M : Type 1} → statement M
+begin-entries-spec = tie.close (tie.spec returns)
