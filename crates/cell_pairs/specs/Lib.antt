@@ -12,3 +12,4 @@ pub mod SharedVertices
 pub mod CellGroupsFacts
 pub mod WorkRecordsFacts
 pub mod CountingFacts
+pub mod Records

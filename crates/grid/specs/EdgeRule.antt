@@ -66,11 +66,13 @@ place-at vs es i p j q lp lq =
     rw (i′, p′, j′, q′)
 
 -- two cells agree exactly when each two of their places do
-cells-of : (vs es : List ℕ) (i j : ℕ) → ((p q : ℕ) → p < 3 → q < 3 → placesAgree vs es (3 * i + p) (3 * j + q) ≡ true) → cellsAgree vs es i j ≡ true
+cells-of : (vs es : List ℕ) (i j : ℕ) → ((p q : ℕ) → p < 3 → q < 3 → placesAgree vs es (3 * i + p) (3 * j + q) ≡ true)
+    → cellsAgree vs es i j ≡ true
 unfolding cellsAgree agreesWith
 cells-of vs es i j h = all-of 3 _ (λ p lp. all-of 3 _ (λ q lq. sym (place-at vs es i p j q lp lq) ∙ h p q lp lq))
 
-cells-at : (vs es : List ℕ) (i j : ℕ) → cellsAgree vs es i j ≡ true → (p q : ℕ) → p < 3 → q < 3 → placesAgree vs es (3 * i + p) (3 * j + q) ≡ true
+cells-at : (vs es : List ℕ) (i j : ℕ) → cellsAgree vs es i j ≡ true
+    → (p q : ℕ) → p < 3 → q < 3 → placesAgree vs es (3 * i + p) (3 * j + q) ≡ true
 unfolding cellsAgree agreesWith
 cells-at vs es i j h p q lp lq = place-at vs es i p j q lp lq ∙ all-at 3 _ (all-at 3 _ h p lp) q lq
 

@@ -62,7 +62,8 @@ fn cells_right(cells: u32, cell_vertices: &[u32]) -> bool
 // Check 2, of a mesh that passes check 1.
 fn vertices_right(cells: u32, vertices: u32, cell_vertices: &[u32]) -> bool
     requires { ⌜ length (now «cell_vertices») ≡ 3 * cells ⌝ }
-    ensures { λ r. ⌜ r ≡ (within 3 4096 vertices and allBelow (now («cell_vertices» .entry)) vertices and all cells (λ i. distinct (now («cell_vertices» .entry)) i)) ⌝ }
+    ensures { λ r. ⌜ r ≡ (within 3 4096 vertices and allBelow (now («cell_vertices» .entry)) vertices
+        and all cells (λ i. distinct (now («cell_vertices» .entry)) i)) ⌝ }
 {
     is_within(3, 4096, vertices as u64)
         & all_below(cell_vertices, vertices)
@@ -71,7 +72,8 @@ fn vertices_right(cells: u32, vertices: u32, cell_vertices: &[u32]) -> bool
 
 // Check 3 but for the edge rule.
 fn edges_sized(cells: u32, edges: u32, cell_edges: &[u32]) -> bool
-    ensures { λ r. ⌜ r ≡ (within 3 6144 edges and eqb (length (now («cell_edges» .entry))) (3 * cells) and allBelow (now («cell_edges» .entry)) edges) ⌝ }
+    ensures { λ r. ⌜ r ≡ (within 3 6144 edges and eqb (length (now («cell_edges» .entry))) (3 * cells)
+        and allBelow (now («cell_edges» .entry)) edges) ⌝ }
 {
     is_within(3, 6144, edges as u64)
         & (cell_edges.len() == 3 * (cells as usize))
@@ -81,7 +83,8 @@ fn edges_sized(cells: u32, edges: u32, cell_edges: &[u32]) -> bool
 // Check 3, of a mesh that passes check 1.
 fn edges_right(cells: u32, edges: u32, cell_vertices: &[u32], cell_edges: &[u32]) -> bool
     requires { ⌜ length (now «cell_vertices») ≡ 3 * cells ⌝ }
-    ensures { λ r. ⌜ r ≡ (within 3 6144 edges and eqb (length (now («cell_edges» .entry))) (3 * cells) and allBelow (now («cell_edges» .entry)) edges and edgeRule (now («cell_vertices» .entry)) (now («cell_edges» .entry))) ⌝ }
+    ensures { λ r. ⌜ r ≡ (within 3 6144 edges and eqb (length (now («cell_edges» .entry))) (3 * cells)
+        and allBelow (now («cell_edges» .entry)) edges and edgeRule (now («cell_vertices» .entry)) (now («cell_edges» .entry))) ⌝ }
 {
     if edges_sized(cells, edges, cell_edges) {
         keeps_edge_rule(cell_vertices, cell_edges, cells as usize)
@@ -98,7 +101,13 @@ pub fn mesh_refusal(
     cell_vertices: &[u32],
     cell_edges: &[u32],
 ) -> u32
-    ensures { λ r. ⌜ r ≡ refusal (meshChecks (record { cells = cells; vertices = vertices; edges = edges; cellVertices = now («cell_vertices» .entry); cellEdges = now («cell_edges» .entry) })) ⌝ }
+    ensures { λ r. ⌜ r ≡ refusal (meshChecks (record {
+      cells = cells;
+      vertices = vertices;
+      edges = edges;
+      cellVertices = now («cell_vertices» .entry);
+      cellEdges = now («cell_edges» .entry);
+    })) ⌝ }
 {
     if !cells_right(cells, cell_vertices) {
         1

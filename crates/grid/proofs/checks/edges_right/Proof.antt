@@ -1,4 +1,4 @@
--- `grid::checks::edges_right` meets its contract. The edge list's length, which the edge rule's reader asks for, is what the first call has tested. Assumes nothing.
+-- `grid::checks::edges_right` meets its contract: the first call has tested the edge list's length, which the second asks for. Assumes nothing.
 use mathlib.Core.Path.{sym, _∙_}
 use Rattle.lists.specs.Bool.{_and_, and-no-left}
 use Rattle.grid.specs.Facts.{length-before}

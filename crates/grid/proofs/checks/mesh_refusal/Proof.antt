@@ -23,17 +23,24 @@ returns c = sym (refusal-fails 1 _ _ (turned (c .before .cells-right .ensures) (
 
 returns-2 : tie.Need-returns-2
 unfolding cellsRight verticesRight
-returns-2 c = sym (refusal-passes 1 _ _ (passed (c .before .before .before .cells-right .ensures) (c .before .before .if1 .left)) ∙ refusal-fails 2 _ _ (turned (c .before .vertices-right .ensures) (c .if2 .taken)))
+returns-2 c =
+    sym (refusal-passes 1 _ _ (passed (c .before .before .before .cells-right .ensures) (c .before .before .if1 .left))
+    ∙ refusal-fails 2 _ _ (turned (c .before .vertices-right .ensures) (c .if2 .taken)))
 
 returns-3 : tie.Need-returns-3
 unfolding cellsRight verticesRight edgesRight
 returns-3 c =
-    sym (refusal-passes 1 _ _ (passed (c .before .before .before .before .before .cells-right .ensures) (c .before .before .before .before .if1 .left)) ∙ refusal-passes 2 _ _ (passed (c .before .before .before .vertices-right .ensures) (c .before .before .if2 .left)) ∙ refusal-fails 3 _ _ (turned (c .before .edges-right .ensures) (c .if3 .taken)))
+    sym (refusal-passes 1 _ _ (passed (c .before .before .before .before .before .cells-right .ensures) (c .before .before .before .before .if1 .left))
+    ∙ refusal-passes 2 _ _ (passed (c .before .before .before .vertices-right .ensures) (c .before .before .if2 .left))
+    ∙ refusal-fails 3 _ _ (turned (c .before .edges-right .ensures) (c .if3 .taken)))
 
 returns-4 : tie.Need-returns-4
 unfolding cellsRight verticesRight edgesRight
 returns-4 c =
-    sym (refusal-passes 1 _ _ (passed (c .before .before .before .before .before .cells-right .ensures) (c .before .before .before .before .if1 .left)) ∙ refusal-passes 2 _ _ (passed (c .before .before .before .vertices-right .ensures) (c .before .before .if2 .left)) ∙ refusal-passes 3 _ _ (passed (c .before .edges-right .ensures) (c .if3 .left)) ∙ refusal-none)
+    sym (refusal-passes 1 _ _ (passed (c .before .before .before .before .before .cells-right .ensures) (c .before .before .before .before .if1 .left))
+    ∙ refusal-passes 2 _ _ (passed (c .before .before .before .vertices-right .ensures) (c .before .before .if2 .left))
+    ∙ refusal-passes 3 _ _ (passed (c .before .edges-right .ensures) (c .if3 .left))
+    ∙ refusal-none)
 
 pub mesh-refusal-spec : {M : Type 1} → statement M
 mesh-refusal-spec =

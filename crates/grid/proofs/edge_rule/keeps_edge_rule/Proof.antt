@@ -1,4 +1,5 @@
--- `grid::edge_rule::keeps_edge_rule` meets its contract. The invariant: each cell passed agrees with the cells up to it; `rule-by-cells` makes the edge rule of that. Assumes nothing.
+-- `grid::edge_rule::keeps_edge_rule` meets its contract. The invariant: each cell passed agrees with the cells up to it. That is the edge rule
+-- (`rule-by-cells`). Assumes nothing.
 use Prim.Native.Nat.{_≤_, _-_}
 use native.Mathlib.Omega.{arith}
 use mathlib.Core.Bool.{true}
@@ -31,10 +32,14 @@ loop-again : tie.Need-loop-again Inv-loop μ-loop
 loop-again c = (search needs, all-more _ _ (c .before .before .before .loop .inv .1) (sym (c .before .agrees-before .ensures) ∙ c .if1 .taken))
 
 returns : tie.Need-returns Inv-loop μ-loop
-returns c = sym (all-fails _ _ (c .before .before .before .loop .i) (search needs) (sym (c .before .agrees-before .ensures) ∙ c .if1 .left)) ∙ rule-by-cells _ _ _ (c .before .before .before .before .before .before .pre .1)
+returns c =
+    sym (all-fails _ _ (c .before .before .before .loop .i) (search needs) (sym (c .before .agrees-before .ensures) ∙ c .if1 .left))
+    ∙ rule-by-cells _ _ _ (c .before .before .before .before .before .before .pre .1)
 
 returns-2 : tie.Need-returns-2 Inv-loop μ-loop
-returns-2 c = all-done _ _ _ (c .before .loop .inv .1) (omega arith) ∙ rule-by-cells _ _ _ (c .before .before .before .before .pre .1)
+returns-2 c =
+    all-done _ _ _ (c .before .loop .inv .1) (omega arith)
+    ∙ rule-by-cells _ _ _ (c .before .before .before .before .pre .1)
 
 pub keeps-edge-rule-spec : {M : Type 1} → statement M
 keeps-edge-rule-spec =

@@ -1,0 +1,2 @@
+-- Cells laid out group by group (`Groups`).
+pub mod Groups

@@ -1,0 +1,79 @@
+-- `distant_pairs::write_colours` meets its contract. The invariant of its loop: the records of the first b batches are written. Assumes nothing.
+use Prim.Native.Nat.{_-_, _<_}
+use native.Mathlib.Omega.{arith}
+use lib.ListN.{length}
+use Rattle.lists.specs.Range.{batch}
+use Rattle.lists.specs.Writes.{Turns, turns-start, turns-room, turns-turn, turns-done, wrote-length}
+use Rattle.cell_pairs.specs.Records.{records}
+use Rattle.cell_groups.specs.Groups.{cells-batch}
+use Rattle.cell_pairs.specs.WorkList.{distantColours}
+use Rattle.distant_pairs.specs.Distant.{distantTrials}
+use Rattle.distant_pairs.specs.Facts.{batchCount, batch-one, batch-few, batch-past, batch-begins}
+use Rattle.distant_pairs.proofs.write_colours.Statement.{statement}
+use Rattle.distant_pairs.proofs.write_colours.Tie as tie
+
+abbrev Inv-loop : tie.InvT-loop
+Inv-loop vertices size tests trials work₀ at next₀ b₀ work next b =
+    Turns records (λ b. distantTrials vertices size (batch size b tests) trials) (batchCount size (length tests)) work₀ work at next b
+
+abbrev μ-loop : tie.MeasureT-loop
+μ-loop vertices size tests trials work₀ at next₀ b₀ work next b = batchCount size (length tests) - b
+
+loop-holds : tie.Need-loop-holds Inv-loop μ-loop
+loop-holds c = turns-start _ _ _ _
+
+mul-loop : tie.Need-mul-loop Inv-loop μ-loop
+mul-loop c = omega (arith, batch-begins _ _ _ (c .loop .inv .upto))
+
+-- a turn's batch is one of them
+below : (c : tie.In-loop Inv-loop μ-loop) → c .before .loop .b < batchCount (c .before .before .before .before .before .before .args .batch) (length (c .before .before .before .before .before .before .args .tests .now))
+below c = batch-one (c .before .before .before .before .before .before .pre .0 .0) (c .loop-test .taken)
+
+batch-of-requires : tie.Need-batch-of-requires Inv-loop μ-loop
+batch-of-requires c κs = omega arith
+
+write-trials-requires : tie.Need-write-trials-requires Inv-loop μ-loop
+unfolding distantColours distantTrials
+write-trials-requires c κs =
+    let l = c .before .before .before in
+    let pre = l .before .before .before .before .before .pre in
+    rw (c .before .batch-of .ensures)
+    (pre .0, (cells-batch _ _ (pre .1 .0), (pre .1 .1 .0, turns-room (l .loop .inv) (below (c .before .before)) (pre .1 .1 .1))))
+
+add-b : tie.Need-add-b Inv-loop μ-loop
+add-b c =
+    let t = c .before .before .before .before .before in
+    omega (arith, batch-few _ _ _ (t .before .before .before .before .before .before .pre .0 .0) (t .loop-test .taken))
+
+loop-less : tie.Need-loop-less Inv-loop μ-loop
+loop-less c =
+    let t = c .before .before .before .before .before in
+    omega (arith, below t)
+
+loop-again : tie.Need-loop-again Inv-loop μ-loop
+loop-again c =
+    let t = c .before .before .before .before .before in
+    turns-turn (t .before .loop .inv) (below t) (rw (c .before .before .before .before .batch-of .ensures) at (c .before .before .write-trials .ensures))
+
+same-length : tie.Need-same-length Inv-loop μ-loop
+same-length c = wrote-length (c .before .loop .inv .wrote)
+
+returns : tie.Need-returns Inv-loop μ-loop
+unfolding distantColours distantTrials
+returns c = turns-done (c .before .loop .inv) (batch-past (c .before .before .before .before .before .before .pre .0 .0) (c .loop-test .left))
+
+pub write-colours-spec : {M : Type 1} → statement M
+write-colours-spec =
+    tie.close
+    (tie.spec
+    Inv-loop
+    μ-loop
+    loop-holds
+    mul-loop
+    batch-of-requires
+    write-trials-requires
+    add-b
+    loop-less
+    loop-again
+    same-length
+    returns)

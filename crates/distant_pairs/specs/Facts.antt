@@ -1,0 +1,90 @@
+-- The laws of the distant part. Assumes nothing.
+use mathlib.Core.Path.{_≡_, sym, ap, ap₂, _∙_}
+use mathlib.Core.Logic.{⊎-elim}
+use mathlib.Core.Bool.{Bool, true, false}
+use mathlib.Core.List.{List, [], _∷_}
+use Prim.Native.Nat.{ℕ, _+_, _-_, _*_, _/_, _≤_, _<_}
+use native.Mathlib.Nat.{add-zero, div-mul-le-self, lt-div-mul-add, mul-le-mul-left, mul-le-mul-right}
+use native.Mathlib.Omega.{arith}
+use lib.ListN.{length, getD}
+use Rattle.lists.specs.Bool.{_or_}
+use Rattle.lists.specs.Bounded.{some, lt-or-le}
+use Rattle.lists.specs.Range.{flatMap-below}
+use Rattle.grid.specs.Cells.{has, share}
+use Rattle.grid.specs.Mesh.{Mesh}
+use Rattle.function.specs.Colours.{colourCount}
+use Rattle.cell_pairs.specs.WorkList.{rec, coloured, distantPair, distantColours, distantPart}
+use Rattle.cell_groups.specs.Groups.{Grouped, Laid, grouped}
+use Rattle.distant_pairs.specs.Distant.{Corners, hasOneOf, distantRest, distantParts}
+
+-- ---- a pair
+
+-- as they are read
+pub corners : (vs : List ℕ) {j k : ℕ} → k ≡ j → Corners vs j (getD vs (3 * k) 0) (getD vs (3 * k + 1) 0) (getD vs (3 * k + 2) 0)
+corners vs e = record { first = rw (e, add-zero); second = rw e; third = rw e }
+
+-- with the vertices of cell j at hand: cells i and j share a vertex
+pub shares : {vs : List ℕ} {j a b c : ℕ} → Corners vs j a b c → (i : ℕ) → hasOneOf vs i a b c ≡ share vs i j
+unfolding hasOneOf share has some _or_
+shares e i = rw (e .first, e .second, e .third)
+
+-- a pair that shares a vertex has no record here, and any other has one. (k is the index of cell i, and r the answer for it.)
+module _ {vs : List ℕ} {i j a b c k : ℕ} {r : Bool} (at : Corners vs j a b c) (e : k ≡ i) (answer : r ≡ hasOneOf vs k a b c) where
+  told : r ≡ share vs i j
+  told = answer ∙ shares at k ∙ ap (λ (x : ℕ). share vs x j) e
+
+  pub pair-none : r ≡ true → distantPair vs i j ≡ []
+  unfolding distantPair
+  pair-none h = rw (sym told ∙ h)
+
+  pub pair-one : r ≡ false → distantPair vs i j ≡ rec 255 i j ∷ []
+  unfolding distantPair
+  pair-one h = rw (sym told ∙ h)
+
+-- ---- a loop over the batches, `while b * size < n`: how many there are of n cells
+
+abbrev pub batchCount : ℕ → ℕ → ℕ
+batchCount size n = (n + (size - 1)) / size
+
+-- a batch that begins within the cells is one of them
+pub batch-one : {size b n : ℕ} → 0 < size → b * size < n → b < batchCount size n
+batch-one {size} {b} {n} p h = ⊎-elim (λ l. l) (λ l. absurd (past l)) (lt-or-le b (batchCount size n))
+  where
+    past : batchCount size n ≤ b → ⊥
+    past l = omega (arith, mul-le-mul-right size l, lt-div-mul-add {a = n + (size - 1)} p)
+
+pub batch-few : (size b n : ℕ) → 0 < size → b * size < n → b < n
+batch-few size b n p h = omega (arith, mul-le-mul-left b p)
+
+-- past the last batch
+pub batch-past : {size b n : ℕ} → 0 < size → n ≤ b * size → batchCount size n ≤ b
+batch-past {size} {b} {n} p h = ⊎-elim (λ l. absurd (more l)) (λ l. l) (lt-or-le b (batchCount size n))
+  where
+    more : b < batchCount size n → ⊥
+    more l =
+        let m : (b + 1) * size ≤ batchCount size n * size = mul-le-mul-right size (omega arith) in
+        omega (arith, m, div-mul-le-self (n + (size - 1)) size)
+
+-- where the loop's batch begins
+pub batch-begins : (size b n : ℕ) → b ≤ batchCount size n → b * size ≤ n + (size - 1)
+batch-begins size b n h = omega (arith, mul-le-mul-right size h, div-mul-le-self (n + (size - 1)) size)
+
+-- ---- all
+
+-- the parts are the colours: this is the distant part of the work list
+pub distant-is : (m : Mesh) (B : ℕ) (ts rs : List ℕ) {testOrder testStarts trialOrder trialStarts : List ℕ}
+    → Grouped testOrder testStarts (colourCount ts) (coloured (m .cells) ts)
+    → Grouped trialOrder trialStarts (colourCount rs) (coloured (m .cells) rs)
+    → distantParts (m .cellVertices) B testOrder testStarts trialOrder trialStarts ≡ distantPart m B ts rs
+unfolding distantParts distantRest distantPart
+distant-is m B ts rs t r =
+    rw (t .parts, r .parts)
+    (flatMap-below _ _ (colourCount ts)
+    (λ c hc. flatMap-below _ _ (colourCount rs) (λ d hd. ap₂ (distantColours (m .cellVertices) B) (t .each c hc) (r .each d hd))))
+
+-- the same of what `by_colour` lays out for the two elements
+pub distant-laid : (m : Mesh) (B : ℕ) (ts rs : List ℕ) {a testOrder testStarts b trialOrder trialStarts : List ℕ} → length ts ≡ m .cells → length rs ≡ m .cells
+    → Laid a testOrder testStarts (colourCount ts) (coloured (length ts) ts)
+    → Laid b trialOrder trialStarts (colourCount rs) (coloured (length rs) rs)
+    → distantParts (m .cellVertices) B testOrder testStarts trialOrder trialStarts ≡ distantPart m B ts rs
+distant-laid m B ts rs e f t r = distant-is m B ts rs (rw e at (grouped t)) (rw f at (grouped r))
