@@ -13,3 +13,4 @@ pub mod CellGroupsFacts
 pub mod WorkRecordsFacts
 pub mod CountingFacts
 pub mod Records
+pub mod PatternFacts
