@@ -25,7 +25,7 @@ use Rattle.cell_pairs.specs.WorkRecords.{Distant, Touching}
 use Rattle.cell_pairs.specs.Counting.{Countable, countable, split, length-work, record-distant, record-touching, records-right}
 use Rattle.boundary_assemblers.specs.Planning.{Planning, Lists, batchRight, planRefusal, planLists, writtenLists, planNumbers, testSpace, trialSpace, workRecords}
 use Rattle.boundary_assemblers.specs.Accepted.{Accepted, accepted}
-use Rattle.boundary_assemblers.specs.Runs.{begin, recordAt, cellDofs, isTouching, isDistant, rangesRight, placesRight, planRight, recordRight}
+use Rattle.boundary_assemblers.specs.Runs.{begin, recordAt, cellDofs, isTouching, isDistant, rangesRight, placesRight, planRight, recordKnown, recordRight}
 use Rattle.boundary_assemblers.specs.Machine.{machineOf, machineRun, Call}
 use Rattle.boundary_assemblers.specs.Calls.{callAll}
 use Rattle.boundary_assemblers.specs.Whole.{Right, whole, embed, planOf, runAt, pairCount, recordNo, touches}
@@ -171,7 +171,7 @@ module _ (x : Planning) (l : Lists) (ok : Accepted x l)
 
     -- 22
     record-right : recordRight (runAt x p) (planOf x) ≡ true
-    unfolding recordRight runAt planNumbers
+    unfolding recordRight recordKnown runAt planNumbers
     record-right =
         let cells = records-right (x .mesh) (x .batch) _ _ counts p below in
         and-both _ _ (and-both _ _ (and-both _ _ (and-both _ _

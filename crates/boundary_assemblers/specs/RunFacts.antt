@@ -1,16 +1,21 @@
 -- What a check of the run that passes says, in numbers. Assumes nothing.
-use Prim.Native.Nat.{_*_, _≤_}
-use native.Mathlib.Nat.{mul-le-mul}
-use mathlib.Core.Path.{_≡_}
-use mathlib.Core.Bool.{true}
+use Prim.Native.Nat.{ℕ, zero, suc, _+_, _*_, _≤_, _<_}
+use native.Mathlib.Nat.{mul-le-mul, mul-comm, mul-le-mul-left}
+use native.Mathlib.Omega.{arith}
+use mathlib.Core.Path.{_≡_, refl}
+use mathlib.Core.Bool.{Bool, true, false}
 use lib.ListN.{length}
-use borrow.Author.Tests.{leb-true, eqb-true}
+use borrow.Author.Tests.{leb-true, eqb-true, eqb-false, ltb-true, eq-eqb, ne-eqb, not-true}
 use Rattle.lists.specs.Bool.{_and_, and-left, and-right}
+use Rattle.lists.specs.Refusals.{refusal, unless, refusal-zero}
+use Rattle.grid.specs.Mesh.{allBelow}
 use Rattle.grid.specs.Facts.{within-low, within-high}
 use Rattle.function.specs.Elements.{dimsRight}
 use Rattle.integrands.specs.Terms.{integrandRight}
 use Rattle.boundary_assemblers.specs.declared.Run.{Run}
-use Rattle.boundary_assemblers.specs.Runs.{Plan, pairs, testDim, trialDim, rangesRight, placesRight, planRight}
+use Rattle.boundary_assemblers.specs.declared.WorkRecord.{WorkRecord}
+use Rattle.boundary_assemblers.specs.declared.Looked.the-variants.{Refused as LookRefused}
+use Rattle.boundary_assemblers.specs.Runs.{Plan, pairs, testDim, trialDim, recordOf, cellDofs, testDofsOf, trialDofsOf, rangesRight, placesRight, planRight, pairLeft, recordKnown, recordRight, stateChecks, lookAnswer}
 
 -- 21: the ranges
 pub record Ranges (r : Run) : Type 0 where
@@ -79,3 +84,100 @@ lengths r l h =
       trialDofs = eqb-true _ _ (and-right _ _ (and-left _ _ h));
       work = eqb-true _ _ (and-right _ _ h);
     }
+
+-- ---- record p
+
+-- it lies within the work list
+pub record-fits : (r : Run) (l : Plan) → Lengths r l → r .position < pairs (r .numbers) → 3 * r .position + 3 ≤ length (l .work)
+record-fits r l h below = omega (arith, h .work)
+
+-- the DOFs of a cell lie within a DOF list
+pub cell-fits : (C d i n : ℕ) → n ≡ C * d → i < C → d * i + d ≤ n
+cell-fits C d i n e h = omega (arith, e, mul-comm C d, mul-le-mul-left d h)
+
+-- a known record has cells below C
+pub record Known (r : Run) (e : WorkRecord) : Type 0 where
+  pub test : e .«test_cell» < r .numbers .cells
+  pub trial : e .«trial_cell» < r .numbers .cells
+
+pub known : (r : Run) (e : WorkRecord) → recordKnown r e ≡ true → Known r e
+unfolding recordKnown
+known r e h = record { test = ltb-true _ _ (and-right _ _ (and-left _ _ h)); trial = ltb-true _ _ (and-right _ _ h) }
+
+-- what record_right answers, by the record e that it read
+pub record-unknown : (r : Run) (l : Plan) (e : WorkRecord) → e ≡ recordOf r l → recordKnown r e ≡ false → false ≡ recordRight r l
+unfolding recordRight _and_
+record-unknown r l e q h = rw (← q, h)
+
+pub record-known : (r : Run) (l : Plan) (e : WorkRecord) → e ≡ recordOf r l → recordKnown r e ≡ true
+    → (allBelow (cellDofs (l .testDofs) (testDim r) (e .«test_cell»)) (r .numbers .rows) and allBelow (cellDofs (l .trialDofs) (trialDim r) (e .«trial_cell»)) (r .numbers .columns)) ≡ recordRight r l
+unfolding recordRight _and_
+record-known r l e q h = rw (← q, h)
+
+-- ---- 21, 20, 22 in order
+
+module _ (r : Run) (l : Plan) (sized : Bool) where
+  pub ranges-fail : rangesRight r ≡ false → 21 ≡ refusal (stateChecks r l sized)
+  unfolding refusal unless _and_
+  ranges-fail h = rw h
+
+  pub places-fail : rangesRight r ≡ true → placesRight r ≡ false → 21 ≡ refusal (stateChecks r l sized)
+  unfolding refusal unless _and_
+  places-fail a h = rw (a, h)
+
+  pub plan-fails : rangesRight r ≡ true → placesRight r ≡ true → planRight r l ≡ false → 21 ≡ refusal (stateChecks r l sized)
+  unfolding refusal unless _and_
+  plan-fails a b h = rw (a, b, h)
+
+  pub size-fails : rangesRight r ≡ true → placesRight r ≡ true → planRight r l ≡ true → sized ≡ false → 21 ≡ refusal (stateChecks r l sized)
+  unfolding refusal unless _and_
+  size-fails a b d h = rw (a, b, d, h)
+
+  module _ (a : rangesRight r ≡ true) (b : placesRight r ≡ true) (d : planRight r l ≡ true) (e : sized ≡ true) where
+    pub none-left : r .position ≡ pairs (r .numbers) → 20 ≡ refusal (stateChecks r l sized)
+    unfolding refusal unless _and_ pairLeft
+    none-left h = rw (a, b, d, e, eq-eqb _ _ h)
+
+    pub record-fails : (r .position ≡ pairs (r .numbers) → ⊥) → recordRight r l ≡ false → 22 ≡ refusal (stateChecks r l sized)
+    unfolding refusal unless _and_ pairLeft
+    record-fails n h = rw (a, b, d, e, ne-eqb _ _ n, h)
+
+    pub all-pass : (r .position ≡ pairs (r .numbers) → ⊥) → recordRight r l ≡ true → 0 ≡ refusal (stateChecks r l sized)
+    unfolding refusal unless _and_ pairLeft
+    all-pass n h = rw (a, b, d, e, ne-eqb _ _ n, h)
+
+-- where none turns the call down
+pub record Standing (r : Run) (l : Plan) (sized : Bool) : Type 0 where
+  pub ranges : Ranges r
+  pub places : Places r
+  pub lengths : Lengths r l
+  pub size : sized ≡ true
+  pub below : r .position < pairs (r .numbers)
+  pub known : Known r (recordOf r l)
+  pub test-below : allBelow (testDofsOf r l) (r .numbers .rows) ≡ true
+  pub trial-below : allBelow (trialDofsOf r l) (r .numbers .columns) ≡ true
+
+pub standing : (r : Run) (l : Plan) (sized : Bool) → refusal (stateChecks r l sized) ≡ 0 → Standing r l sized
+unfolding pairLeft recordRight
+standing r l sized h =
+    let c₁ = refusal-zero 20 _ _ h in
+    let c₂ = refusal-zero 19 _ _ (c₁ .1) in
+    let c₃ = refusal-zero 21 _ _ (c₂ .1) in
+    let before = and-left _ _ (c₁ .0) in
+    let p = places r (and-right _ _ (and-left _ _ before)) in
+    let other : r .position ≡ pairs (r .numbers) → ⊥ = eqb-false _ _ (not-true _ (c₂ .0)) in
+    record {
+      ranges = ranges r (and-left _ _ (and-left _ _ before));
+      places = p;
+      lengths = lengths r l (and-right _ _ before);
+      size = and-right _ _ (c₁ .0);
+      below = omega (arith, p .position);
+      known = known r _ (and-left _ _ (and-left _ _ (c₃ .0)));
+      test-below = and-right _ _ (and-left _ _ (c₃ .0));
+      trial-below = and-right _ _ (c₃ .0);
+    }
+
+-- a refusal is answered as such
+pub look-refused : (n : ℕ) (r : Run) (e : WorkRecord) → (n ≡ 0 → ⊥) → LookRefused r n ≡ lookAnswer n r e
+look-refused zero r e h = absurd (h refl)
+look-refused (suc n) r e h = refl

@@ -2,7 +2,7 @@
 -- Assumes nothing.
 use Prim.Native.Nat.{ℕ, zero, suc, _+_, _-_, _*_}
 use mathlib.Core.Bool.{Bool, true, false, not}
-use mathlib.Core.List.{List, [], _∷_, flatMap, map}
+use mathlib.Core.List.{List, [], _∷_, _++_, flatMap, map}
 use lib.ListN.{length, getD, take, drop, set}
 use lib.Seq.{sets}
 use lib.Dec.{leb, ltb, eqb}
@@ -126,24 +126,28 @@ entriesRight r e =
 unfoldable pub pairLeft : Run → Bool
 pairLeft r = not (eqb (r .position) (pairs (r .numbers)))
 
--- 22: record p has a pattern of the list, cells below C, and each DOF of its two cells is below its size
+-- 22: a record has a pattern of the list, and cells below C
+unfoldable pub recordKnown : Run → WorkRecord → Bool
+recordKnown r e =
+    (isTouching (e .pattern) or isDistant (e .pattern)) and ltb (e .«test_cell») (r .numbers .cells) and ltb (e .«trial_cell») (r .numbers .cells)
+
+-- 22: so has record p, and each DOF of its two cells is below its size
 unfoldable pub recordRight : Run → Plan → Bool
 recordRight r l =
-    (isTouching (recordOf r l .pattern) or isDistant (recordOf r l .pattern))
-    and ltb (recordOf r l .«test_cell») (r .numbers .cells)
-    and ltb (recordOf r l .«trial_cell») (r .numbers .cells)
-    and allBelow (testDofsOf r l) (r .numbers .rows)
-    and allBelow (trialDofsOf r l) (r .numbers .columns)
+    recordKnown r (recordOf r l) and allBelow (testDofsOf r l) (r .numbers .rows) and allBelow (trialDofsOf r l) (r .numbers .columns)
 
--- look checks 21, 20, 22
+-- every call checks 21, 20, 22; sized: what is lent beside the plan has its length
+abbrev pub stateChecks : Run → Plan → Bool → List Check
+stateChecks r l sized =
+    check 21 (rangesRight r and placesRight r and planRight r l and sized) ∷ check 20 (pairLeft r) ∷ check 22 (recordRight r l) ∷ []
+
+-- look is lent the plan alone, and makes no other check
 unfoldable pub lookRefusal : Run → Plan → ℕ
-lookRefusal r l =
-    refusal (check 21 (rangesRight r and placesRight r and planRight r l) ∷ check 20 (pairLeft r) ∷ check 22 (recordRight r l) ∷ [])
+lookRefusal r l = refusal (stateChecks r l true)
 
--- adds and the entries call check 21, 20, 22, 23, then 9 to 11: what is lent beside the plan has its length, record and run are of the call's kind
+-- adds and the entries call check 23 too, then 9 to 11; kind: record and run are of the call's kind
 abbrev pub callChecks : Run → Plan → Bool → Bool → List Check → List Check
-callChecks r l sized kind numbers =
-    check 21 (rangesRight r and placesRight r and planRight r l and sized) ∷ check 20 (pairLeft r) ∷ check 22 (recordRight r l) ∷ check 23 kind ∷ numbers
+callChecks r l sized kind numbers = stateChecks r l sized ++ check 23 kind ∷ numbers
 
 unfoldable pub distantRefusal : Run → Plan → List Float → Distant → ℕ
 distantRefusal r l M a =
