@@ -13,10 +13,10 @@ pub record Accepted (x : Planning) (l : Lists) : Type 0 where
   pub vertices : verticesRight (x .mesh) ≡ true
   pub edges : edgesRight (x .mesh) ≡ true
   pub dims : dimsRight (x .test) (x .trial) ≡ true
-  pub batch : batchRight x ≡ true
+  pub batch : batchRight (x .batch) ≡ true
   pub integrand : integrandRight (x .integrand) ≡ true
   pub patterns : patternsRight (x .mesh .cells) (x .mesh .cellVertices) ≡ true
-  pub lengths : lengthsRight x l ≡ true
+  pub lengths : lengthsRight (x .mesh .cells) (x .test) (x .trial) l ≡ true
 
 pub accepted : (x : Planning) (l : Lists) → planRefusal x l ≡ 0 → Accepted x l
 unfolding planRefusal

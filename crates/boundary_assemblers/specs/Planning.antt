@@ -62,19 +62,18 @@ abbrev pub trialSpace : Planning → Space
 trialSpace x = spaceOn (x .mesh) (x .trial)
 
 -- 5: batch is from 1 to 65,535
-unfoldable pub batchRight : Planning → Bool
-batchRight x = within 1 65535 (x .batch)
+unfoldable pub batchRight : ℕ → Bool
+batchRight B = within 1 65535 B
 
 -- 8: DOF lists are C·dim long, colours C, owner lists 3·C·dim, the work list 3·C·C
-unfoldable pub lengthsRight : Planning → Lists → Bool
-lengthsRight x l =
-    let C = x .mesh .cells in
-    eqb (length (l .testDofs)) (C * dim (x .test))
-    and eqb (length (l .trialDofs)) (C * dim (x .trial))
+unfoldable pub lengthsRight : ℕ → Element → Element → Lists → Bool
+lengthsRight C test trial l =
+    eqb (length (l .testDofs)) (C * dim test)
+    and eqb (length (l .trialDofs)) (C * dim trial)
     and eqb (length (l .testColours)) C
     and eqb (length (l .trialColours)) C
-    and eqb (length (l .testOwners)) (3 * (C * dim (x .test)))
-    and eqb (length (l .trialOwners)) (3 * (C * dim (x .trial)))
+    and eqb (length (l .testOwners)) (3 * (C * dim test))
+    and eqb (length (l .trialOwners)) (3 * (C * dim trial))
     and eqb (length (l .work)) (3 * (C * C))
 
 -- planning checks 1 to 8 in this order
@@ -82,10 +81,10 @@ abbrev pub planChecks : Planning → Lists → List Check
 planChecks x l =
     meshChecks (x .mesh)
     ++ check 4 (dimsRight (x .test) (x .trial))
-    ∷ check 5 (batchRight x)
+    ∷ check 5 (batchRight (x .batch))
     ∷ check 6 (integrandRight (x .integrand))
     ∷ check 7 (patternsRight (x .mesh .cells) (x .mesh .cellVertices))
-    ∷ check 8 (lengthsRight x l)
+    ∷ check 8 (lengthsRight (x .mesh .cells) (x .test) (x .trial) l)
     ∷ []
 
 -- the first that turns the call down, or 0

@@ -3,7 +3,7 @@ use Prim.Native.Nat.{ℕ, suc}
 use native.Mathlib.Omega.{arith}
 use mathlib.Core.Path.{_≡_, refl}
 use mathlib.Core.Bool.{Bool, true, false}
-use mathlib.Core.List.{List, [], _∷_}
+use mathlib.Core.List.{List, [], _∷_, _++_}
 
 -- a check: its number, and whether the input passes it
 pub record Check : Type 0 where
@@ -43,3 +43,13 @@ pub refusal-zero : (n : ℕ) (b : Bool) (cs : List Check) → refusal (check (su
 unfolding refusal unless
 refusal-zero n true cs e = (refl, e)
 refusal-zero n false cs e = absurd (omega arith)
+
+-- checks that follow others: those before turn the call down, or all pass
+pub refusal-first : (cs ds : List Check) (v : ℕ) → v ≡ refusal cs → (v ≡ 0 → ⊥) → v ≡ refusal (cs ++ ds)
+unfolding refusal unless
+refusal-first [] ds v e h = absurd (h e)
+refusal-first (c ∷ cs) ds v e h = go (c .passes) (λ f. refusal-first cs ds v f h) e
+  where
+    go : (b : Bool) → (v ≡ refusal cs → v ≡ refusal (cs ++ ds)) → v ≡ unless b (c .number) (refusal cs) → v ≡ unless b (c .number) (refusal (cs ++ ds))
+    go true more e = more e
+    go false more e = e

@@ -1,0 +1,97 @@
+// Checks 1 to 8, in this order.
+use cell_pairs::patterns::patterns_right;
+use function::Element;
+use function::dims_right;
+use grid::mesh_refusal;
+use grid::wide;
+use integrands::Integrand;
+use integrands::integrand_right;
+ghost use mathlib.Core.Path.{_≡_};
+ghost use Prim.Native.Nat.{_≤_};
+ghost use Rattle.boundary_assemblers.specs.Planning.{lengthsRight, planRefusal};
+ghost use Rattle.function.specs.Elements.{dim};
+ghost use Rattle.planning.specs.Arguments.{meshOf, planningOf, listsOf};
+
+// Check 8.
+fn lengths_right(
+    cells: u32,
+    test: Element,
+    trial: Element,
+    test_dofs: &[u32],
+    trial_dofs: &[u32],
+    test_colours: &[u32],
+    trial_colours: &[u32],
+    test_owners: &[u32],
+    trial_owners: &[u32],
+    work: &[u32],
+) -> bool
+    requires { ⌜ (cells ≤ 2048) × (dim test ≤ 10) × (dim trial ≤ 10) ⌝ }
+    ensures { λ r. ⌜ r ≡ lengthsRight cells test trial (listsOf (now («test_dofs» .entry)) (now («trial_dofs» .entry)) (now («test_colours» .entry)) (now («trial_colours» .entry)) (now («test_owners» .entry)) (now («trial_owners» .entry)) (now (work .entry))) ⌝ }
+{
+    let c = wide(cells);
+    let rows = c * test.dim();
+    let columns = c * trial.dim();
+    let pairs = c * c;
+    (test_dofs.len() == rows)
+        & (trial_dofs.len() == columns)
+        & (test_colours.len() == c)
+        & (trial_colours.len() == c)
+        & (test_owners.len() == 3 * rows)
+        & (trial_owners.len() == 3 * columns)
+        & (work.len() == 3 * pairs)
+}
+
+// The first check that turns planning down, or 0. It writes nothing.
+pub fn plan_refusal(
+    cells: u32,
+    vertices: u32,
+    edges: u32,
+    cell_vertices: &[u32],
+    cell_edges: &[u32],
+    test: Element,
+    trial: Element,
+    batch: u32,
+    integrand: Integrand,
+    test_dofs: &[u32],
+    trial_dofs: &[u32],
+    test_colours: &[u32],
+    trial_colours: &[u32],
+    test_owners: &[u32],
+    trial_owners: &[u32],
+    work: &[u32],
+) -> u32
+    ensures { λ r. ⌜ r ≡ planRefusal (planningOf (meshOf cells vertices edges (now («cell_vertices» .entry)) (now («cell_edges» .entry))) test trial batch integrand)
+        (listsOf (now («test_dofs» .entry)) (now («trial_dofs» .entry)) (now («test_colours» .entry)) (now («trial_colours» .entry)) (now («test_owners» .entry)) (now («trial_owners» .entry)) (now (work .entry))) ⌝ }
+{
+    let v = mesh_refusal(cells, vertices, edges, cell_vertices, cell_edges);
+    if v != 0 {
+        return v;
+    }
+    if !dims_right(test, trial) {
+        return 4;
+    }
+    if !((1 <= batch) & (batch <= 65535)) {
+        return 5;
+    }
+    if !integrand_right(integrand) {
+        return 6;
+    }
+    if !patterns_right(wide(cells), cell_vertices) {
+        return 7;
+    }
+    if !lengths_right(
+        cells,
+        test,
+        trial,
+        test_dofs,
+        trial_dofs,
+        test_colours,
+        trial_colours,
+        test_owners,
+        trial_owners,
+        work,
+    ) {
+        return 8;
+    }
+    0
+}

@@ -1,0 +1,2 @@
+// Planning: from mesh, elements, batch size and integrand to the plan and its numbers.
+mod checks;
