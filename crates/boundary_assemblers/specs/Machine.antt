@@ -16,7 +16,8 @@ use Rattle.cell_pair_assemblers.specs.Lent.{Touching, Distant, touchingChecks, 
 use Rattle.cell_pair_assemblers.specs.Entries.{touchingEntry, distantEntry}
 use Rattle.cell_pairs.specs.WorkList.{Rec, rec}
 use Rattle.boundary_assemblers.specs.Planning.{Planning, testSpace, trialSpace, workRecords, unlessRefused}
-use Rattle.boundary_assemblers.specs.Runs.{cellDofs, addLocal, Answer, found, accepted, refused}
+use Rattle.local_matrix.specs.Adding.{addLocal}
+use Rattle.boundary_assemblers.specs.Runs.{cellDofs, Answer, found, accepted, refused}
 
 pub record Machine : Type 0 where
   -- the records in work order, and how many there are: C·C

@@ -18,7 +18,8 @@ use Rattle.integrands.specs.Floats.{_⊕_}
 use Rattle.cell_pair_assemblers.specs.Entries.{touchingEntry, distantEntry}
 use Rattle.cell_pairs.specs.WorkList.{rec}
 use Rattle.boundary_assemblers.specs.Planning.{unlessRefused}
-use Rattle.boundary_assemblers.specs.Runs.{addAt, addLocal}
+use Rattle.local_matrix.specs.Adding.{addAt, addLocal}
+use Rattle.boundary_assemblers.specs.Runs.{}
 use Rattle.boundary_assemblers.specs.Machine.{Machine, Call, looks, addsDistant, addsTouching, State, machineRefusal, machineSum, machineStep, machineRun}
 
 -- ---- one place of the matrix

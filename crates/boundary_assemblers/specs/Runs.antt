@@ -2,21 +2,19 @@
 -- Assumes nothing.
 use Prim.Native.Nat.{ℕ, zero, suc, _+_, _-_, _*_}
 use mathlib.Core.Bool.{Bool, true, false, not}
-use mathlib.Core.List.{List, [], _∷_, _++_, flatMap, map}
-use lib.ListN.{length, getD, take, drop, set}
+use mathlib.Core.List.{List, [], _∷_, _++_}
+use lib.ListN.{length, getD, take, drop}
 use lib.Seq.{sets}
 use lib.Dec.{leb, ltb, eqb}
 use lib.Ieee.{Float}
 use Rattle.lists.specs.Bool.{_and_, _or_}
-use Rattle.lists.specs.Range.{range}
-use Rattle.lists.specs.Fold.{upto}
 use Rattle.lists.specs.Refusals.{Check, check, refusal}
 use Rattle.grid.specs.Mesh.{within, allBelow}
 use Rattle.function.specs.Elements.{dim, dimsRight}
-use Rattle.integrands.specs.Floats.{_⊕_, _!_}
 use Rattle.integrands.specs.Terms.{integrandRight}
 use Rattle.cell_pair_assemblers.specs.Lent.{Touching, Distant, touchingChecks, distantChecks}
 use Rattle.cell_pair_assemblers.specs.Entries.{touchingEntry, distantEntry}
+use Rattle.local_matrix.specs.Adding.{addLocal, localRows, localColumns, localValues}
 use Rattle.cell_pairs.specs.WorkList.{Rec, rec}
 use Rattle.boundary_assemblers.specs.declared.PlanNumbers.{PlanNumbers}
 use Rattle.boundary_assemblers.specs.declared.Run.{Run}
@@ -219,19 +217,6 @@ addedRun (AddRefused r n) = r
 
 -- ---- what is written
 
--- M with v added at a place, by one rounded sum
-unfoldable pub addAt : List Float → ℕ → Float → List Float
-addAt M at v = set M at (M ! at ⊕ v)
-
--- local entry (i,j) is added at row + rows·column, trial basis outer
-unfoldable pub addLocal : (ℕ → ℕ → Float) → ℕ → List ℕ → List ℕ → List Float → List Float
-addLocal entry rows testDofs trialDofs M =
-    upto
-    (λ (j : ℕ) (A : List Float).
-    upto (λ (i : ℕ) (B : List Float). addAt B (getD testDofs i 0 + rows * getD trialDofs j 0) (entry i j)) (length testDofs) A)
-    (length trialDofs)
-    M
-
 -- the matrix after an add
 unfoldable pub distantMatrix : Run → Plan → List Float → Distant → List Float
 distantMatrix r l M a =
@@ -244,16 +229,6 @@ touchingMatrix r l M a =
     unlessRefused (touchingRefusal r l M a)
     (addLocal (touchingEntry (r .numbers .integrand) a) (r .numbers .rows) (testDofsOf r l) (trialDofsOf r l) M)
     M
-
--- rows, columns and values of a local matrix, in the same order: trial basis outer
-unfoldable pub localRows : List ℕ → List ℕ → List ℕ
-localRows testDofs trialDofs = flatMap (λ column. testDofs) trialDofs
-
-unfoldable pub localColumns : List ℕ → List ℕ → List ℕ
-localColumns testDofs trialDofs = flatMap (λ column. map (λ row. column) testDofs) trialDofs
-
-unfoldable pub localValues : (ℕ → ℕ → Float) → ℕ → ℕ → List Float
-localValues entry m n = flatMap (λ j. map (λ i. entry i j) (range m)) (range n)
 
 -- the entries call writes from place (p − N)·test dim·trial dim on
 abbrev pub entryPlace : Run → ℕ

@@ -1,0 +1,1 @@
+// A local matrix put into the dense matrix, and into entry lists.
