@@ -1,5 +1,5 @@
 -- Tests over numbers (`Bool`, `Bounded`), comprehensions (`Range`), sums and counts (`Total`), folds (`Fold`), a list written into a list (`Stores`,
--- `Writes`), places in flat lists (`Places`), refusals (`Refusals`), examples (`Examples`).
+-- `Writes`), places in flat lists (`Places`), refusals (`Refusals`), examples (`Examples`), items sorted by their keys (`Buckets`).
 pub mod Bool
 pub mod Bounded
 pub mod Range
@@ -10,3 +10,4 @@ pub mod Writes
 pub mod Places
 pub mod Refusals
 pub mod Examples
+pub mod Buckets
