@@ -1,5 +1,5 @@
 // Checks 1 to 8, in this order.
-use cell_pairs::patterns::patterns_right;
+use cell_patterns::patterns_right;
 use function::Element;
 use function::dims_right;
 use grid::mesh_refusal;

@@ -1,0 +1,117 @@
+-- `patterns::pair_right` meets its contract: each return has the tests that led there. Assumes nothing.
+use mathlib.Core.Path.{sym, _∙_}
+use native.Mathlib.Nat.{add-zero}
+use Rattle.lists.specs.Bool.{_and_}
+use Rattle.cell_patterns.specs.PatternFacts.{first-missing, rest-missing, none-missing}
+use borrow.Author.Needs.{needs}
+use Rattle.cell_patterns.proofs.pair_right.Statement.{statement}
+use Rattle.cell_patterns.proofs.pair_right.Tie as tie
+
+mul-at : tie.Need-mul-at
+mul-at c = search needs
+
+mul-x : tie.Need-mul-x
+mul-x c = search needs
+
+shared-slice-read-x : tie.Need-shared-slice-read-x
+shared-slice-read-x c = search needs
+
+has-entity-requires : tie.Need-has-entity-requires
+has-entity-requires c κs = search needs
+
+returns : tie.Need-returns
+returns c = let s = c .before .before .before .before in first-missing _ _ _ (s .pre .1 .0) (s .pre .1 .1) (c .before .has-entity .ensures) (c .if1 .taken)
+
+add-y : tie.Need-add-y
+add-y c = search needs
+
+mul-y : tie.Need-mul-y
+mul-y c = search needs
+
+shared-slice-read-y : tie.Need-shared-slice-read-y
+shared-slice-read-y c = search needs
+
+add-z : tie.Need-add-z
+add-z c = search needs
+
+mul-z : tie.Need-mul-z
+mul-z c = search needs
+
+shared-slice-read-z : tie.Need-shared-slice-read-z
+shared-slice-read-z c = search needs
+
+has-entity-requires-2 : tie.Need-has-entity-requires-2
+has-entity-requires-2 c κs = search needs
+
+has-entity-requires-3 : tie.Need-has-entity-requires-3
+has-entity-requires-3 c κs = search needs
+
+returns-2 : tie.Need-returns-2
+returns-2 c =
+    let s = c .before .before .before .before .before .before .before .before .before in
+    rest-missing _ _ _ (s .pre .1 .0) (s .pre .1 .1) _ _ (c .before .before .has-entity2 .ensures) (c .before .has-entity3 .ensures) (c .if2 .taken)
+
+mul-own : tie.Need-mul-own
+mul-own c = search needs
+
+mul-result : tie.Need-mul-result
+mul-result c = search needs
+
+shared-slice-read-result : tie.Need-shared-slice-read-result
+shared-slice-read-result c = search needs
+
+add-result : tie.Need-add-result
+add-result c = search needs
+
+mul-result-2 : tie.Need-mul-result-2
+mul-result-2 c = search needs
+
+shared-slice-read-result-2 : tie.Need-shared-slice-read-result-2
+shared-slice-read-result-2 c = search needs
+
+add-result-2 : tie.Need-add-result-2
+add-result-2 c = search needs
+
+mul-result-3 : tie.Need-mul-result-3
+mul-result-3 c = search needs
+
+shared-slice-read-result-3 : tie.Need-shared-slice-read-result-3
+shared-slice-read-result-3 c = search needs
+
+returns-3 : tie.Need-returns-3
+unfolding _and_
+returns-3 c =
+    let t = c .before .before .before in
+    let f = t .before .before .before .before .before in
+    let s = f .before .before .before .before in
+    let e = none-missing _ _ _ (s .pre .1 .0) (s .pre .1 .1) _ _ _ (f .before .has-entity .ensures) (f .if1 .left) in
+    sym (e (t .before .before .has-entity2 .ensures) (t .before .has-entity3 .ensures) (t .if2 .left) ∙ simp add-zero)
+
+pub pair-right-spec : {M : Type 1} → statement M
+pair-right-spec =
+    tie.close
+    (tie.spec
+    mul-at
+    mul-x
+    shared-slice-read-x
+    has-entity-requires
+    returns
+    add-y
+    mul-y
+    shared-slice-read-y
+    add-z
+    mul-z
+    shared-slice-read-z
+    has-entity-requires-2
+    has-entity-requires-3
+    returns-2
+    mul-own
+    mul-result
+    shared-slice-read-result
+    add-result
+    mul-result-2
+    shared-slice-read-result-2
+    add-result-2
+    mul-result-3
+    shared-slice-read-result-3
+    returns-3)

@@ -1,0 +1,2 @@
+-- Laws of patterns and of the smallest shared vertex.
+pub mod PatternFacts

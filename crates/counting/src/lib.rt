@@ -1,0 +1,1 @@
+// The counting theorem on the work list: specs/ alone.
