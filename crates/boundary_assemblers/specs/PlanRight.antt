@@ -22,6 +22,7 @@ use Rattle.function.specs.Colours.{colourList}
 use Rattle.function.specs.ColoursPromises.{colours-long}
 use Rattle.cell_pairs.specs.WorkList.{Rec, rec, flat, distantPairs}
 use Rattle.counting.specs.WorkRecords.{Distant, Touching}
+use Rattle.counting.specs.Records.{flat-at, length-flat}
 use Rattle.counting.specs.Counting.{Countable, countable, split, length-work, record-distant, record-touching, records-right}
 use Rattle.boundary_assemblers.specs.Planning.{Planning, Lists, batchRight, planRefusal, planLists, writtenLists, planNumbers, testSpace, trialSpace, workRecords}
 use Rattle.boundary_assemblers.specs.Accepted.{Accepted, accepted}
@@ -29,28 +30,6 @@ use Rattle.boundary_assemblers.specs.Runs.{begin, recordAt, cellDofs, is
 use Rattle.boundary_assemblers.specs.Machine.{machineOf, machineRun, Call}
 use Rattle.boundary_assemblers.specs.Calls.{callAll}
 use Rattle.boundary_assemblers.specs.Whole.{Right, whole, embed, planOf, runAt, pairCount, recordNo, touches}
-
--- ---- records as numbers
-
--- the numbers of record k
-pub flat-at : (rs : List Rec) (k : ℕ) → k < length rs
-    → (getD (flat rs) (3 * k) 0 ≡ getD rs k (rec 0 0 0) .pattern)
-    × (getD (flat rs) (3 * k + 1) 0 ≡ getD rs k (rec 0 0 0) .test)
-    × (getD (flat rs) (3 * k + 2) 0 ≡ getD rs k (rec 0 0 0) .trial)
-unfolding flat
-flat-at [] k h = absurd (omega arith)
-flat-at (r ∷ rs) zero h = (refl, refl, refl)
-flat-at (r ∷ rs) (suc k) h =
-    let e₀ : 3 * suc k ≡ suc (suc (suc (3 * k))) = omega arith in
-    let e₁ : 3 * suc k + 1 ≡ suc (suc (suc (3 * k + 1))) = omega arith in
-    let e₂ : 3 * suc k + 2 ≡ suc (suc (suc (3 * k + 2))) = omega arith in
-    let more = flat-at rs k (omega arith) in
-    (rw e₀ (more .0), rw e₁ (more .1), rw e₂ (more .2))
-
-pub length-flat : (rs : List Rec) → length (flat rs) ≡ 3 * length rs
-unfolding flat
-length-flat [] = refl
-length-flat (r ∷ rs) = omega (arith, length-flat rs)
 
 -- ---- what a pattern says
 

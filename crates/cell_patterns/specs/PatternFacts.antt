@@ -9,13 +9,14 @@ use mathlib.Core.Logic.{_⊎_, inl, inr, ⊎-elim}
 use mathlib.Core.List.{List, [], _∷_, _++_, flatMap, append-nil}
 use lib.ListN.{length, getD}
 use lib.Dec.{eqb, ltb}
-use borrow.Author.Tests.{eqb-true, eqb-false, eq-eqb, ltb-true, ltb-false, lt-ltb, le-ltb, not-true}
+use borrow.Author.Tests.{eqb-true, eqb-false, ltb-true, ltb-false, lt-ltb, le-ltb, not-true}
 use Rattle.lists.specs.Bool.{_and_, _or_, true≢false, cases, and-left, and-right, and-both, and-no-left, and-no-right, or-cases, or-left, or-right, or-no-left, or-no-right, turned, passed}
-use Rattle.lists.specs.Bounded.{all, some, least, all-at, least-is, some-at, some-which}
+use Rattle.lists.specs.Bounded.{some, least, least-is, some-at}
 use Rattle.lists.specs.Range.{range, when}
+use Rattle.grid.specs.Facts.{has-at, share-turned}
 use Rattle.grid.specs.Cells.{entity, has, share, secondEnd, sameTwo}
 use Rattle.grid.specs.Mesh.{distinct}
-use Rattle.cell_pairs.specs.Patterns.{Match, matches, edgeOf, patternOf, pattern, outside, smallestShared, patternsRight}
+use Rattle.cell_pairs.specs.Patterns.{Match, matches, edgeOf, patternOf, pattern, outside, smallestShared}
 
 -- ---- places
 
@@ -337,27 +338,14 @@ unfolding has some _or_
 has-cases vs i x h =
     ⊎-elim (λ k. ⊎-elim (λ e. inl (eqb-true _ _ e)) (λ e. inr (inl (eqb-true _ _ e))) (or-cases _ _ k)) (λ e. inr (inr (eqb-true _ _ e))) (or-cases _ _ h)
 
-pub has-at : (vs : List ℕ) (i p x : ℕ) → p < 3 → entity vs i p ≡ x → has vs i x ≡ true
-unfolding has
-has-at vs i p x h e = some-at 3 (λ q. eqb (entity vs i q) x) p h (eq-eqb _ _ e)
-
-pub share-sym : (vs : List ℕ) (i j : ℕ) → share vs i j ≡ true → share vs j i ≡ true
-unfolding share
-share-sym vs i j h =
-    let p = some-which 3 (λ p. has vs j (entity vs i p)) h in
-    ⊎-elim (λ e. found (p .0) 0 (p .1) (omega arith) e) (⊎-elim (λ e. found (p .0) 1 (p .1) (omega arith) e) (λ e. found (p .0) 2 (p .1) (omega arith) e)) (has-cases vs j _ (p .2))
-  where
-    found : (p q : ℕ) → p < 3 → q < 3 → entity vs j q ≡ entity vs i p → some 3 (λ q. has vs i (entity vs j q)) ≡ true
-    found p q k l e = some-at 3 (λ q. has vs i (entity vs j q)) q l (has-at vs i p _ k (sym e))
-
 -- cells that share a vertex: one of cell j is in cell i
 share-any : (vs : List ℕ) (i j : ℕ) → share vs i j ≡ true → has vs i (entity vs j 0) or has vs i (entity vs j 1) or has vs i (entity vs j 2) ≡ true
 unfolding share some _or_
-share-any vs i j h = share-sym vs i j h
+share-any vs i j h = share-turned vs i j h
 
 share-first : (vs : List ℕ) (i j : ℕ) → has vs i (entity vs j 0) ≡ true → share vs i j ≡ true
 unfolding share
-share-first vs i j h = share-sym vs j i (some-at 3 (λ q. has vs i (entity vs j q)) 0 (omega arith) h)
+share-first vs i j h = share-turned vs j i (some-at 3 (λ q. has vs i (entity vs j q)) 0 (omega arith) h)
 
 -- ---- check 7
 
@@ -443,11 +431,6 @@ module _ (vs : List ℕ) (i j : ℕ) (d : distinct vs i ≡ true) (k : distinct 
   none-missing a true true e g f f′ h = all-right (and-both _ _ (and-both _ _ (rw add-zero (passed e g)) (sym f)) (sym f′))
   none-missing a true false e g f f′ h = absurd (true≢false h)
   none-missing a false c e g f f′ h = absurd (true≢false h)
-
--- what check 7 says of a pair
-pub pair-known : (C : ℕ) (vs : List ℕ) → patternsRight C vs ≡ true → (i j : ℕ) → i < C → j < C → share vs i j ≡ true → pattern vs i j < outside
-unfolding patternsRight _or_
-pair-known C vs e i j hi hj s = ltb-true _ _ (rw s at (all-at C (λ j′. pairRight vs i j′) (all-at C (λ i′. all C (λ j′. pairRight vs i′ j′)) e i hi) j hj))
 
 -- ---- the smallest shared vertex
 

@@ -2,53 +2,24 @@
 -- vertex number is below V. Assumes nothing.
 use Prim.Native.Nat.{ℕ, _+_, _*_, _<_}
 use native.Mathlib.Omega.{arith}
-use mathlib.Core.Path.{_≡_, refl, sym, subst, _∙_}
+use mathlib.Core.Path.{_≡_, sym, subst, _∙_}
 use mathlib.Core.Logic.{⊎-elim}
 use mathlib.Core.Bool.{Bool, true, false}
 use mathlib.Core.List.{List}
 use lib.ListN.{getD}
-use lib.Dec.{eqb}
-use borrow.Author.Tests.{eq-eqb, eqb-true}
 use Rattle.lists.specs.Bool.{_and_, true≢false, cases, and-left, and-right, and-both}
-use Rattle.lists.specs.Bounded.{least, some-at, some-which, lt-or-le, least-holds, least-before, least-none}
-use Rattle.grid.specs.Cells.{entity, has, share}
+use Rattle.lists.specs.Bounded.{least, lt-or-le, least-holds, least-before, least-none}
+use Rattle.grid.specs.Facts.{has-place, share-which, share-at}
+use Rattle.grid.specs.Cells.{has, share}
 use Rattle.cell_pairs.specs.Patterns.{smallestShared}
 
 -- ---- a vertex of a cell
-
--- the place where x stands in cell i
-has-place : (vs : List ℕ) (i x : ℕ) → has vs i x ≡ true → (p : ℕ) × (p < 3) × (entity vs i p ≡ x)
-unfolding has
-has-place vs i x e =
-    let w = some-which 3 (λ p. eqb (entity vs i p) x) e in
-    (w .0, w .1, eqb-true _ _ (w .2))
-
--- what stands at a place of cell i is a vertex of it
-has-own : (vs : List ℕ) (i p : ℕ) → p < 3 → has vs i (entity vs i p) ≡ true
-unfolding has
-has-own vs i p h = some-at 3 (λ q. eqb (entity vs i q) (entity vs i p)) p h (eq-eqb (entity vs i p) (entity vs i p) refl)
 
 -- a vertex of one of C cells is below V where each number of the vertex list is
 has-below : (vs : List ℕ) (C top : ℕ) → ((k : ℕ) → k < 3 * C → getD vs k 0 < top) → (i x : ℕ) → i < C → has vs i x ≡ true → x < top
 has-below vs C top below i x hi e =
     let w = has-place vs i x e in
     subst (λ (y : ℕ). y < top) (w .2) (below (3 * i + w .0) (omega (arith, w .1)))
-
--- ---- two cells
-
--- two cells that share a vertex, and that vertex
-pub share-which : (vs : List ℕ) (i j : ℕ) → share vs i j ≡ true → (x : ℕ) × (has vs i x ≡ true) × (has vs j x ≡ true)
-unfolding share
-share-which vs i j e =
-    let w = some-which 3 (λ p. has vs j (entity vs i p)) e in
-    (entity vs i (w .0), has-own vs i (w .0) (w .1), w .2)
-
--- a vertex of both is shared
-pub share-at : (vs : List ℕ) (i j x : ℕ) → has vs i x ≡ true → has vs j x ≡ true → share vs i j ≡ true
-unfolding share
-share-at vs i j x hi hj =
-    let w = has-place vs i x hi in
-    some-at 3 (λ p. has vs j (entity vs i p)) (w .0) (w .1) (subst (λ (y : ℕ). has vs j y ≡ true) (sym (w .2)) hj)
 
 -- ---- the smallest shared vertex
 

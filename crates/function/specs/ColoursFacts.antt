@@ -10,24 +10,13 @@ use mathlib.Core.List.{List, [], _∷_, _++_}
 use lib.ListN.{length, getD, set, take, length-append, List·getD-append, replicate, getD-replicate, length-replicate, length-set}
 use lib.Seq.{sets, getD-at, getD-set-same, getD-set-other, take-suc, take-all}
 use lib.Dec.{eqb}
-use borrow.Author.Tests.{eqb-true, eq-eqb, ne-eqb, not-true, lt-ltb, le-ltb}
+use borrow.Author.Tests.{eq-eqb, ne-eqb, not-true, lt-ltb, le-ltb}
 use Rattle.lists.specs.Bool.{_and_, _or_, true≢false, and-both, and-no-left, and-no-right, or-right}
-use Rattle.lists.specs.Bounded.{some, least, some-at, some-not, some-which, some-none, some-ext, some-more, some-start, least-is, least-le, least-holds, least-ext, eq-or-ne}
+use Rattle.lists.specs.Bounded.{some, least, some-not, some-none, some-ext, some-more, some-start, least-is, least-le, least-holds, least-ext, eq-or-ne}
 use Rattle.lists.specs.Stores.{sets-more, sets-all, getD-front}
 use Rattle.grid.specs.Cells.{has, share}
 use Rattle.function.specs.Numbering.{Space}
 use Rattle.function.specs.Colours.{taken, smallest, coloursTo, sharing, colourList, colourCount}
-
--- ---- sharing goes both ways
-
-pub share-sym : (l : List ℕ) (i j : ℕ) → share l i j ≡ true → share l j i ≡ true
-unfolding share has
-share-sym l i j h =
-    let r : (p : ℕ) × (p < 3) × (some 3 (λ q. eqb (getD l (3 * j + q) 0) (getD l (3 * i + p) 0)) ≡ true) = some-which 3 (λ p. some 3 (λ q. eqb (getD l (3 * j + q) 0) (getD l (3 * i + p) 0))) h in
-    let u : (q : ℕ) × (q < 3) × (eqb (getD l (3 * j + q) 0) (getD l (3 * i + r .0) 0) ≡ true) = some-which 3 (λ q. eqb (getD l (3 * j + q) 0) (getD l (3 * i + r .0) 0)) (r .2) in
-    some-at 3 (λ p. some 3 (λ q. eqb (getD l (3 * i + q) 0) (getD l (3 * j + p) 0))) (u .0) (u .1)
-    (some-at 3 (λ q. eqb (getD l (3 * i + q) 0) (getD l (3 * j + u .0) 0)) (r .0) (r .1)
-    (eq-eqb (getD l (3 * i + r .0) 0) (getD l (3 * j + u .0) 0) (sym (eqb-true (getD l (3 * j + u .0) 0) (getD l (3 * i + r .0) 0) (u .2)))))
 
 -- ---- the colours, one by one
 

@@ -11,14 +11,15 @@ use Rattle.lists.specs.Bounded.{lt-or-le}
 use Rattle.grid.specs.Cells.{share}
 use Rattle.function.specs.Numbering.{Space}
 use Rattle.function.specs.Colours.{sharing, colourList, colourCount}
-use Rattle.function.specs.ColoursFacts.{share-sym, length-colours, colour-le, colours-differ, below-count, count-le}
+use Rattle.grid.specs.Facts.{share-turned}
+use Rattle.function.specs.ColoursFacts.{length-colours, colour-le, colours-differ, below-count, count-le}
 
 pub sharing-sym : (s : Space) (i j : ℕ) → sharing s i j ≡ true → sharing s j i ≡ true
 sharing-sym s i j h = go (ltb 0 (s .element .a)) (ltb 0 (s .element .b)) h
   where
     go : (p q : Bool) → cond p (share (s .cellVertices)) (cond q (share (s .cellEdges)) eqb) i j ≡ true → cond p (share (s .cellVertices)) (cond q (share (s .cellEdges)) eqb) j i ≡ true
-    go true q e = share-sym (s .cellVertices) i j e
-    go false true e = share-sym (s .cellEdges) i j e
+    go true q e = share-turned (s .cellVertices) i j e
+    go false true e = share-turned (s .cellEdges) i j e
     go false false e = eq-eqb j i (sym (eqb-true i j e))
 
 module _ (s : Space) (C : ℕ) where

@@ -214,7 +214,7 @@ share-at l i j x hi hj =
     let w : (p : ℕ) × (p < 3) × (entity l i p ≡ x) = has-place l i x hi in
     some-at 3 (λ p. has l j (entity l i p)) (w .0) (w .1) (subst (λ (y : ℕ). has l j y ≡ true) (sym (w .2)) hj)
 
-share-turned : (l : List ℕ) (i j : ℕ) → share l i j ≡ true → share l j i ≡ true
+pub share-turned : (l : List ℕ) (i j : ℕ) → share l i j ≡ true → share l j i ≡ true
 share-turned l i j h =
     let w : (x : ℕ) × (has l i x ≡ true) × (has l j x ≡ true) = share-which l i j h in
     share-at l j i (w .0) (w .2) (w .1)
