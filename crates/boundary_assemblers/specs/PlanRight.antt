@@ -21,9 +21,9 @@ use Rattle.function.specs.NumberingPromises.{dof-list-length, dof-count-le, dof
 use Rattle.function.specs.Colours.{colourList}
 use Rattle.function.specs.ColoursPromises.{colours-long}
 use Rattle.cell_pairs.specs.WorkList.{Rec, rec, flat, distantPairs}
-use Rattle.counting.specs.WorkRecords.{Distant, Touching}
-use Rattle.counting.specs.Records.{flat-at, length-flat}
-use Rattle.counting.specs.Counting.{Countable, countable, split, length-work, record-distant, record-touching, records-right}
+use Rattle.pair_counts.specs.WorkRecords.{Distant, Touching}
+use Rattle.pair_counts.specs.Records.{flat-at, length-flat}
+use Rattle.pair_counts.specs.Counting.{Countable, countable, split, length-work, record-distant, record-touching, records-right}
 use Rattle.boundary_assemblers.specs.Planning.{Planning, Lists, batchRight, planRefusal, planLists, writtenLists, planNumbers, testSpace, trialSpace, workRecords}
 use Rattle.boundary_assemblers.specs.Accepted.{Accepted, accepted}
 use Rattle.boundary_assemblers.specs.Runs.{begin, recordAt, cellDofs, isTouching, isDistant, rangesRight, placesRight, planRight, recordKnown, recordRight}

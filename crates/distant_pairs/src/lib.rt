@@ -10,7 +10,7 @@ ghost use lib.ListN.{length};
 ghost use Rattle.lists.specs.Range.{batch};
 ghost use Rattle.lists.specs.Writes.{Wrote, Room};
 ghost use Rattle.cell_pairs.specs.WorkList.{rec, distantPair, distantBatch, distantColours};
-ghost use Rattle.counting.specs.Records.{records};
+ghost use Rattle.pair_counts.specs.Records.{records};
 ghost use Rattle.cell_groups.specs.Groups.{Cells, Cuts};
 ghost use Rattle.distant_pairs.specs.Distant.{Corners, hasOneOf, distantRow, distantTrials, distantRest, distantParts};
 

@@ -1,7 +1,7 @@
 -- `distant_pairs::push` meets its contract: three stores in a row are one record written. Assumes nothing.
 use native.Mathlib.Omega.{arith}
 use lib.ListN.{length-set}
-use Rattle.counting.specs.Records.{wrote-record}
+use Rattle.pair_counts.specs.Records.{wrote-record}
 use borrow.Author.Needs.{needs}
 use Rattle.distant_pairs.proofs.push.Statement.{statement}
 use Rattle.distant_pairs.proofs.push.Tie as tie

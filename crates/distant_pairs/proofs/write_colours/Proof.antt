@@ -4,7 +4,7 @@ use native.Mathlib.Omega.{arith}
 use lib.ListN.{length}
 use Rattle.lists.specs.Range.{batch}
 use Rattle.lists.specs.Writes.{Turns, turns-start, turns-room, turns-turn, turns-done, wrote-length}
-use Rattle.counting.specs.Records.{records}
+use Rattle.pair_counts.specs.Records.{records}
 use Rattle.cell_groups.specs.Groups.{cells-batch}
 use Rattle.cell_pairs.specs.WorkList.{distantColours}
 use Rattle.distant_pairs.specs.Distant.{distantTrials}

@@ -19,9 +19,9 @@ use Rattle.grid.specs.Cells.{share}
 use Rattle.grid.specs.Mesh.{Mesh, allBelow, distinct, within, cellsRight, verticesRight}
 use Rattle.cell_pairs.specs.Patterns.{outside, pattern, patternsRight}
 use Rattle.cell_pairs.specs.WorkList.{Rec, rec, distantPart, touchingPart, workList, sharingPairs, distantPairs}
-use Rattle.counting.specs.WorkRecords.{ofPair, Distant, Touching, Right}
-use Rattle.counting.specs.WorkRecordsFacts.{distant-each, touching-each}
-use Rattle.counting.specs.CountingFacts.{distant-total, touching-total, pair-total}
+use Rattle.pair_counts.specs.WorkRecords.{ofPair, Distant, Touching, Right}
+use Rattle.pair_counts.specs.WorkRecordsFacts.{distant-each, touching-each}
+use Rattle.pair_counts.specs.CountingFacts.{distant-total, touching-total, pair-total}
 
 -- ---- what the theorem asks of mesh, batch size and colours
 

@@ -16,8 +16,8 @@ use Rattle.grid.specs.Mesh.{Mesh}
 use Rattle.function.specs.Colours.{colourCount}
 use Rattle.cell_pairs.specs.Patterns.{outside, pattern, smallestShared}
 use Rattle.cell_pairs.specs.WorkList.{Rec, rec, coloured, batches, distantPair, distantBatch, distantColours, distantPart, touchingPair, touchingPart}
-use Rattle.counting.specs.SharedVertices.{smallest-found, smallest-none}
-use Rattle.counting.specs.CellGroupsFacts.{total-coloured}
+use Rattle.pair_counts.specs.SharedVertices.{smallest-found, smallest-none}
+use Rattle.pair_counts.specs.CellGroupsFacts.{total-coloured}
 
 -- ---- a sum over the distant part
 

@@ -18,8 +18,8 @@ use Rattle.grid.specs.Mesh.{Mesh}
 use Rattle.function.specs.Colours.{colourCount}
 use Rattle.cell_pairs.specs.Patterns.{outside, pattern, smallestShared}
 use Rattle.cell_pairs.specs.WorkList.{coloured, touchingPair, touchingPart}
-use Rattle.counting.specs.SharedVertices.{smallest-test, smallest-trial}
-use Rattle.counting.specs.CellGroups.{atVertex}
+use Rattle.pair_counts.specs.SharedVertices.{smallest-test, smallest-trial}
+use Rattle.pair_counts.specs.CellGroups.{atVertex}
 
 -- ---- by colour
 

@@ -13,8 +13,8 @@ use Rattle.grid.specs.Cells.{share}
 use Rattle.grid.specs.Mesh.{Mesh}
 use Rattle.cell_pairs.specs.Patterns.{outside, pattern, smallestShared}
 use Rattle.cell_pairs.specs.WorkList.{rec, coloured, distantPair, distantBatch, distantColours, distantPart, touchingPair, touchingPart}
-use Rattle.counting.specs.WorkRecords.{Distant, Touching}
-use Rattle.counting.specs.SharedVertices.{smallest-shares}
+use Rattle.pair_counts.specs.WorkRecords.{Distant, Touching}
+use Rattle.pair_counts.specs.SharedVertices.{smallest-shares}
 
 coloured-below : (C : ℕ) (cs : List ℕ) (c : ℕ) → AllIn (λ i. i < C) (coloured C cs c)
 unfolding coloured
