@@ -1,0 +1,85 @@
+// The work list: distant pairs, then touching pairs.
+use cell_groups::by_colour;
+use distant_pairs::write_distant;
+use touching_pairs::write_touching;
+ghost use mathlib.Core.Path.{_≡_};
+ghost use Prim.Native.Nat.{_+_, _*_, _≤_};
+ghost use lib.ListN.{length};
+ghost use Rattle.cell_pairs.specs.WorkList.{flat, workList, distantPairs};
+ghost use Rattle.function.specs.Colours.{colourCount};
+ghost use Rattle.touching_pairs.specs.Visits.{bare};
+ghost use Rattle.planning.specs.Work.{Ready, Scratch, Written};
+
+// By way of four lists: the cells by colour and where each colour starts, for the test and for the trial element.
+fn write_parts(
+    cells: usize,
+    top: usize,
+    vertices: &[u32],
+    batch: usize,
+    test_colours: &[u32],
+    test_count: usize,
+    trial_colours: &[u32],
+    trial_count: usize,
+    test_order: &mut [u32],
+    test_starts: &mut [u32],
+    trial_order: &mut [u32],
+    trial_starts: &mut [u32],
+    work: &mut [u32],
+) -> usize
+    requires { ⌜ Ready (bare cells top (now vertices)) batch (now «test_colours») «test_count» (now «trial_colours») «trial_count» (now work) ⌝ }
+    requires { ⌜ Scratch cells «test_count» (now «test_order») (now «test_starts») ⌝ }
+    requires { ⌜ Scratch cells «trial_count» (now «trial_order») (now «trial_starts») ⌝ }
+    ensures { λ r. ⌜ Written (bare cells top (now (vertices .entry))) batch (now («test_colours» .entry)) (now («trial_colours» .entry)) (now (work .exit)) r ⌝ }
+{
+    by_colour(test_colours, test_count, test_order, test_starts);
+    by_colour(trial_colours, trial_count, trial_order, trial_starts);
+    let n = write_distant(
+        vertices,
+        batch,
+        test_order,
+        test_starts,
+        trial_order,
+        trial_starts,
+        work,
+    );
+    write_touching(vertices, cells, top, work, n);
+    n
+}
+
+// Writes the work list of so many cells, with vertex numbers below top; hands back how many pairs are distant.
+pub fn write_work(
+    cells: usize,
+    top: usize,
+    vertices: &[u32],
+    batch: usize,
+    test_colours: &[u32],
+    test_count: usize,
+    trial_colours: &[u32],
+    trial_count: usize,
+    work: &mut [u32],
+) -> usize
+    requires { ⌜ Ready (bare cells top (now vertices)) batch (now «test_colours») «test_count» (now «trial_colours») «trial_count» (now work) ⌝ }
+    ensures { λ r. ⌜ Written (bare cells top (now (vertices .entry))) batch (now («test_colours» .entry)) (now («trial_colours» .entry)) (now (work .exit)) r ⌝ }
+{
+    let test_end = test_count + 1;
+    let trial_end = trial_count + 1;
+    let mut test_order = [0u32; 2048];
+    let mut test_starts = [0u32; 2049];
+    let mut trial_order = [0u32; 2048];
+    let mut trial_starts = [0u32; 2049];
+    write_parts(
+        cells,
+        top,
+        vertices,
+        batch,
+        test_colours,
+        test_count,
+        trial_colours,
+        trial_count,
+        &mut test_order[..cells],
+        &mut test_starts[..test_end],
+        &mut trial_order[..cells],
+        &mut trial_starts[..trial_end],
+        work,
+    )
+}
