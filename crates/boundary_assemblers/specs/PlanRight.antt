@@ -1,12 +1,12 @@
 -- Where planning turns nothing down, a run begun from its numbers passes the checks 21 and 22 at each position on the plan that planning leaves: `Right` of
 -- `Whole`. Assumes nothing.
-use Prim.Native.Nat.{ℕ, zero, suc, _+_, _*_, _≤_, _<_}
+use Prim.Native.Nat.{ℕ, _+_, _*_, _≤_, _<_}
 use native.Mathlib.Nat.{mul-comm, mul-le-mul-left}
 use native.Mathlib.Omega.{arith}
 use mathlib.Core.Path.{_≡_, refl, sym, ap, _∙_}
 use mathlib.Core.Bool.{true, false, not}
 use mathlib.Core.Logic.{⊎-elim}
-use mathlib.Core.List.{List, [], _∷_}
+use mathlib.Core.List.{List}
 use lib.ListN.{length, getD, drop, length-take}
 use lib.Seq.{getD-take, getD-drop}
 use lib.Dec.{ltb}
@@ -20,7 +20,7 @@ use Rattle.function.specs.Numbering.{Space, dofList, dofCount}
 use Rattle.function.specs.NumberingPromises.{dof-list-length, dof-count-le, dof-below}
 use Rattle.function.specs.Colours.{colourList}
 use Rattle.function.specs.ColoursPromises.{colours-long}
-use Rattle.cell_pairs.specs.WorkList.{Rec, rec, flat, distantPairs}
+use Rattle.cell_pairs.specs.WorkList.{flat, distantPairs}
 use Rattle.pair_counts.specs.WorkRecords.{Distant, Touching}
 use Rattle.pair_counts.specs.Records.{flat-at, length-flat}
 use Rattle.pair_counts.specs.Counting.{Countable, countable, split, length-work, record-distant, record-touching, records-right}

@@ -2,3 +2,4 @@
 pub mod Arguments
 pub mod Facts
 pub mod Work
+pub mod Plan

@@ -1,25 +1,23 @@
 -- What writing the work list asks, and what it leaves. Assumes nothing.
-use Prim.Native.Nat.{ℕ, _+_, _*_, _≤_, _<_, _^_}
+use Prim.Native.Nat.{ℕ, _+_, _*_, _≤_, _<_}
 use native.Mathlib.Omega.{arith}
 use mathlib.Core.Path.{_≡_, refl, sym, ap, subst, _∙_}
-use mathlib.Core.Bool.{true}
 use mathlib.Core.List.{List, _++_, flatMap}
 use lib.ListN.{length, take, replicate, length-replicate}
 use lib.Seq.{length-take-le}
 use Rattle.lists.specs.Range.{range}
 use Rattle.lists.specs.Stores.{sets-all}
 use Rattle.lists.specs.Writes.{numbers, Room, Wrote, wrote-more, wrote-length}
-use Rattle.grid.specs.Mesh.{Mesh, allBelow, distinct}
+use Rattle.grid.specs.Mesh.{Mesh}
 use Rattle.function.specs.Colours.{colourCount}
-use Rattle.cell_pairs.specs.Patterns.{patternsRight}
-use Rattle.cell_pairs.specs.WorkList.{Rec, flat, coloured, distantPart, touchingPart, workList, distantPairs}
+use Rattle.cell_pairs.specs.WorkList.{flat, coloured, distantPart, touchingPart, workList, distantPairs}
 use Rattle.pair_counts.specs.Counting.{Countable, split, length-distant, length-touching, length-work}
 use Rattle.pair_counts.specs.CellGroupsFacts.{coloured-room}
 use Rattle.pair_counts.specs.Records.{records, length-flat}
 use Rattle.cell_groups.specs.Groups.{Laid, Cuts, coloured-cuts}
 use Rattle.distant_pairs.specs.Distant.{distantParts}
 use Rattle.distant_pairs.specs.Facts.{distant-laid}
-use Rattle.touching_pairs.specs.Visits.{bare, Touchable}
+use Rattle.touching_pairs.specs.Visits.{Touchable}
 
 pub record Ready (m : Mesh) (B : ℕ) (ts : List ℕ) (tn : ℕ) (rs : List ℕ) (rn : ℕ) (work : List ℕ) : Type 0 where
   pub counts : Countable m B ts rs

@@ -1,3 +1,149 @@
 // Planning: from mesh, elements, batch size and integrand to the plan and its numbers.
 mod checks;
 mod work_list;
+
+use boundary_assemblers::PlanNumbers;
+use boundary_assemblers::Planned;
+use checks::plan_refusal;
+use function::Element;
+use function::assign_dofs;
+use function::cell_colouring;
+use grid::wide;
+use integrands::Integrand;
+use work_list::write_work;
+ghost use mathlib.Core.Path.{_≡_};
+ghost use Rattle.boundary_assemblers.specs.Planning.{plan, planNumbers, planLists, writtenLists};
+ghost use Rattle.boundary_assemblers.specs.Accepted.{Accepted};
+ghost use Rattle.planning.specs.Arguments.{meshOf, planningOf, listsOf};
+
+// Writes the seven lists of a planning that no check turns down.
+fn write_plan(
+    cells: u32,
+    vertices: u32,
+    edges: u32,
+    cell_vertices: &[u32],
+    cell_edges: &[u32],
+    test: Element,
+    trial: Element,
+    batch: u32,
+    integrand: Integrand,
+    test_dofs: &mut [u32],
+    trial_dofs: &mut [u32],
+    test_colours: &mut [u32],
+    trial_colours: &mut [u32],
+    test_owners: &mut [u32],
+    trial_owners: &mut [u32],
+    work: &mut [u32],
+) -> PlanNumbers
+    requires { ⌜ Accepted (planningOf (meshOf cells vertices edges (now «cell_vertices») (now «cell_edges»)) test trial batch integrand)
+        (listsOf (now «test_dofs») (now «trial_dofs») (now «test_colours») (now «trial_colours») (now «test_owners») (now «trial_owners») (now work)) ⌝ }
+    ensures { λ r. ⌜ r ≡ planNumbers (planningOf (meshOf cells vertices edges (now («cell_vertices» .entry)) (now («cell_edges» .entry))) test trial batch integrand) ⌝ }
+    ensures { λ _. ⌜ listsOf (now («test_dofs» .exit)) (now («trial_dofs» .exit)) (now («test_colours» .exit)) (now («trial_colours» .exit)) (now («test_owners» .exit)) (now («trial_owners» .exit)) (now (work .exit))
+        ≡ writtenLists (planningOf (meshOf cells vertices edges (now («cell_vertices» .entry)) (now («cell_edges» .entry))) test trial batch integrand)
+        (listsOf (now («test_dofs» .entry)) (now («trial_dofs» .entry)) (now («test_colours» .entry)) (now («trial_colours» .entry)) (now («test_owners» .entry)) (now («trial_owners» .entry)) (now (work .entry))) ⌝ }
+{
+    let c = wide(cells);
+    let rows = assign_dofs(c, cell_vertices, cell_edges, test, test_dofs, test_owners);
+    let columns = assign_dofs(
+        c,
+        cell_vertices,
+        cell_edges,
+        trial,
+        trial_dofs,
+        trial_owners,
+    );
+    let test_count = cell_colouring(c, cell_vertices, cell_edges, test, test_colours);
+    let trial_count = cell_colouring(c, cell_vertices, cell_edges, trial, trial_colours);
+    let n = write_work(
+        c,
+        wide(vertices),
+        cell_vertices,
+        wide(batch),
+        test_colours,
+        wide(test_count),
+        trial_colours,
+        wide(trial_count),
+        work,
+    );
+    let distant = n as u32;
+    let touching = cells * cells - distant;
+    PlanNumbers {
+        cells: cells,
+        vertices: vertices,
+        edges: edges,
+        touching: touching,
+        distant: distant,
+        rows: rows,
+        columns: columns,
+        test: test,
+        trial: trial,
+        integrand: integrand,
+    }
+}
+
+// Plans: checks 1 to 8 in this order, every check before the first write; then the seven lists and the numbers.
+pub fn plan(
+    cells: u32,
+    vertices: u32,
+    edges: u32,
+    cell_vertices: &[u32],
+    cell_edges: &[u32],
+    test: Element,
+    trial: Element,
+    batch: u32,
+    integrand: Integrand,
+    test_dofs: &mut [u32],
+    trial_dofs: &mut [u32],
+    test_colours: &mut [u32],
+    trial_colours: &mut [u32],
+    test_owners: &mut [u32],
+    trial_owners: &mut [u32],
+    work: &mut [u32],
+) -> Planned
+    ensures { λ r. ⌜ r ≡ plan (planningOf (meshOf cells vertices edges (now («cell_vertices» .entry)) (now («cell_edges» .entry))) test trial batch integrand)
+        (listsOf (now («test_dofs» .entry)) (now («trial_dofs» .entry)) (now («test_colours» .entry)) (now («trial_colours» .entry)) (now («test_owners» .entry)) (now («trial_owners» .entry)) (now (work .entry))) ⌝ }
+    ensures { λ _. ⌜ listsOf (now («test_dofs» .exit)) (now («trial_dofs» .exit)) (now («test_colours» .exit)) (now («trial_colours» .exit)) (now («test_owners» .exit)) (now («trial_owners» .exit)) (now (work .exit))
+        ≡ planLists (planningOf (meshOf cells vertices edges (now («cell_vertices» .entry)) (now («cell_edges» .entry))) test trial batch integrand)
+        (listsOf (now («test_dofs» .entry)) (now («trial_dofs» .entry)) (now («test_colours» .entry)) (now («trial_colours» .entry)) (now («test_owners» .entry)) (now («trial_owners» .entry)) (now (work .entry))) ⌝ }
+{
+    let v = plan_refusal(
+        cells,
+        vertices,
+        edges,
+        cell_vertices,
+        cell_edges,
+        test,
+        trial,
+        batch,
+        integrand,
+        test_dofs,
+        trial_dofs,
+        test_colours,
+        trial_colours,
+        test_owners,
+        trial_owners,
+        work,
+    );
+    if v != 0 {
+        return Planned::Refused(v);
+    }
+    let numbers = write_plan(
+        cells,
+        vertices,
+        edges,
+        cell_vertices,
+        cell_edges,
+        test,
+        trial,
+        batch,
+        integrand,
+        test_dofs,
+        trial_dofs,
+        test_colours,
+        trial_colours,
+        test_owners,
+        trial_owners,
+        work,
+    );
+    Planned::Ready(numbers)
+}

@@ -1,16 +1,10 @@
 -- `planning::work_list::write_parts` meets its contract. The cells by colour have room since each cell has one colour, and the work list has room by the
 -- counting theorem. Assumes nothing.
 use native.Mathlib.Omega.{arith}
-use Rattle.lists.specs.Writes.{wrote-length}
 use Rattle.planning.specs.Work.{colour-room, test-cuts, trial-cuts, distant-room, touching-room, all-written}
 use borrow.Author.Needs.{needs}
 use Rattle.planning.proofs.work_list.write_parts.Statement.{statement}
 use Rattle.planning.proofs.work_list.write_parts.Tie as tie
-use Rattle.planning.proofs.work_list.write_parts.Reads as reads
-use Rattle.planning.proofs.work_list.write_parts.Lts as lts
-use Rattle.cell_groups.proofs.by_colour.Reads as by-colour-reads
-use Rattle.distant_pairs.proofs.write_distant.Reads as write-distant-reads
-use Rattle.touching_pairs.proofs.write_touching.Reads as write-touching-reads
 
 -- from the place after each call to the place after the call before it
 abbrev start : tie.After-by-colour → tie.Start
@@ -25,16 +19,18 @@ trials-laid c = c .before .before .before .before .before .before .before .befor
 by-colour-requires : tie.Need-by-colour-requires
 by-colour-requires c κs =
     let pre = c .before .before .before .before .before .before .before .before .before .before .pre in
-    let r = pre .0 in
-    ((omega (arith, r .cells, r .counts .testColours), omega (arith, r .cells, pre .1 .0 .cells)),
-    (pre .1 .0 .colours, colour-room _ _ _ _ _ (r .counts .testColours) (r .test) (pre .1 .0)))
+    let r = pre .0 in (
+      (omega (arith, r .cells, r .counts .testColours), omega (arith, r .cells, pre .1 .0 .cells)),
+      (pre .1 .0 .colours, colour-room _ _ _ _ _ (r .counts .testColours) (r .test) (pre .1 .0)),
+    )
 
 by-colour-requires-2 : tie.Need-by-colour-requires-2
 by-colour-requires-2 c κs =
     let pre = start (c .before .before .before .before .before .before) .pre in
-    let r = pre .0 in
-    ((omega (arith, r .cells, r .counts .trialColours), omega (arith, r .cells, pre .1 .1 .cells)),
-    (pre .1 .1 .colours, colour-room _ _ _ _ _ (r .counts .trialColours) (r .trial) (pre .1 .1)))
+    let r = pre .0 in (
+      (omega (arith, r .cells, r .counts .trialColours), omega (arith, r .cells, pre .1 .1 .cells)),
+      (pre .1 .1 .colours, colour-room _ _ _ _ _ (r .counts .trialColours) (r .trial) (pre .1 .1)),
+    )
 
 write-distant-requires : tie.Need-write-distant-requires
 write-distant-requires c κs =

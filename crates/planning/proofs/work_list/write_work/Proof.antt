@@ -5,9 +5,6 @@ use Rattle.planning.specs.Work.{scratch, scratch-lists}
 use borrow.Author.Needs.{needs}
 use Rattle.planning.proofs.work_list.write_work.Statement.{statement}
 use Rattle.planning.proofs.work_list.write_work.Tie as tie
-use Rattle.planning.proofs.work_list.write_work.Reads as reads
-use Rattle.planning.proofs.work_list.write_work.Lts as lts
-use Rattle.planning.proofs.work_list.write_parts.Reads as write-parts-reads
 
 add-test-end : tie.Need-add-test-end
 add-test-end c = omega (arith, c .before .before .before .before .pre)

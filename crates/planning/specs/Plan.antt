@@ -1,0 +1,220 @@
+-- What the calls of `write_plan` ask, from what planning's checks have found, and what they come to. Assumes nothing.
+use Prim.Native.Nat.{ℕ, zero, suc, _-_, _*_, _≤_}
+use native.Mathlib.Nat.{mul-le-mul}
+use native.Mathlib.Omega.{arith}
+use mathlib.Core.Path.{_≡_, refl, ap, _∙_}
+use mathlib.Core.Bool.{true}
+use mathlib.Core.List.{List, _++_}
+use lib.ListN.{length, drop}
+use borrow.Author.Tests.{eqb-true}
+use Rattle.lists.specs.Bool.{and-left, and-right}
+use Rattle.lists.specs.Refusals.{refusal-passes, refusal-none}
+use Rattle.grid.specs.Mesh.{Mesh, verticesRight}
+use Rattle.grid.specs.Facts.{Fine, fine, within-high}
+use Rattle.function.specs.declared.Element.{Element}
+use Rattle.function.specs.Elements.{dim}
+use Rattle.function.specs.Numbering.{dofList, dofCount, ownerList}
+use Rattle.function.specs.NumberingWalk.{Sized}
+use Rattle.function.specs.Colours.{colourList, colourCount, Colourable}
+use Rattle.function.specs.ColoursPromises.{count-at-most}
+use Rattle.cell_pairs.specs.WorkList.{flat, distantPart, touchingPair, touchingPart, workList, sharingPairs, distantPairs}
+use Rattle.pair_counts.specs.Counting.{Countable, split}
+use Rattle.touching_pairs.specs.Visits.{bare, Touchable}
+use Rattle.boundary_assemblers.specs.declared.PlanNumbers.{PlanNumbers}
+use Rattle.boundary_assemblers.specs.declared.Planned.the-variants.{Ready, Refused as PlanRefused}
+use Rattle.boundary_assemblers.specs.Planning.{planRefusal, plan, planAnswer, planLists, unlessRefused, Planning, Lists, spaceOn, testSpace, trialSpace, batchRight, lengthsRight, planNumbers, writtenLists}
+use Rattle.boundary_assemblers.specs.Accepted.{Accepted}
+use Rattle.boundary_assemblers.specs.PlanRight.{counted}
+use Rattle.planning.specs.Arguments.{listsOf}
+use Rattle.planning.specs.Facts.{dims-small}
+use Rattle.planning.specs.Work.{Ready as WorkReady, Written}
+
+-- 8, by its parts
+pub record Lengths (C : ℕ) (test trial : Element) (l : Lists) : Type 0 where
+  pub testDofs : length (l .testDofs) ≡ C * dim test
+  pub trialDofs : length (l .trialDofs) ≡ C * dim trial
+  pub testColours : length (l .testColours) ≡ C
+  pub trialColours : length (l .trialColours) ≡ C
+  pub testOwners : length (l .testOwners) ≡ 3 * (C * dim test)
+  pub trialOwners : length (l .trialOwners) ≡ 3 * (C * dim trial)
+  pub work : length (l .work) ≡ 3 * (C * C)
+
+pub lengths : (C : ℕ) (test trial : Element) (l : Lists) → lengthsRight C test trial l ≡ true → Lengths C test trial l
+unfolding lengthsRight
+lengths C test trial l h =
+    let h₆ = and-left _ _ h in
+    let h₅ = and-left _ _ h₆ in
+    let h₄ = and-left _ _ h₅ in
+    let h₃ = and-left _ _ h₄ in
+    let h₂ = and-left _ _ h₃ in
+    record {
+      testDofs = eqb-true _ _ (and-left _ _ h₂);
+      trialDofs = eqb-true _ _ (and-right _ _ h₂);
+      testColours = eqb-true _ _ (and-right _ _ h₃);
+      trialColours = eqb-true _ _ (and-right _ _ h₄);
+      testOwners = eqb-true _ _ (and-right _ _ h₅);
+      trialOwners = eqb-true _ _ (and-right _ _ h₆);
+      work = eqb-true _ _ (and-right _ _ h);
+    }
+
+-- the distant pairs and the work list read only cells, vertices and the vertex list
+pub bare-distant : (m : Mesh) (top : ℕ) → distantPairs (bare (m .cells) top (m .cellVertices)) ≡ distantPairs m
+unfolding distantPairs
+bare-distant m top = refl
+
+pub bare-work : (m : Mesh) (B : ℕ) (ts rs : List ℕ) → workList (bare (m .cells) (m .vertices) (m .cellVertices)) B ts rs ≡ workList m B ts rs
+unfolding workList distantPart touchingPart touchingPair
+bare-work m B ts rs = refl
+
+module _ {x : Planning} {l : Lists} (ok : Accepted x l) where
+  abbrev C : ℕ
+  C = x .mesh .cells
+
+  pub mesh-fine : Fine (x .mesh)
+  mesh-fine = fine (x .mesh) (refusal-passes 1 _ _ (ok .cells) ∙ refusal-passes 2 _ _ (ok .vertices) ∙ refusal-passes 3 _ _ (ok .edges) ∙ refusal-none)
+
+  pub lens : Lengths C (x .test) (x .trial) l
+  lens = lengths C (x .test) (x .trial) l (ok .lengths)
+
+  -- what `assign_dofs` asks
+  sized : (e : Element) → dim e ≤ 10 → Sized (spaceOn (x .mesh) e) C
+  sized e small =
+      let m = mesh-fine in
+      record {
+        few = m .fewCells;
+        vertices-long = m .vertexPlaces;
+        edges-long = m .edgePlaces;
+        small = small;
+        vertices-below = λ p h. omega (arith, m .vertexBelow p h, m .fewVertices);
+        edges-below = λ p h. omega (arith, m .edgeBelow p h, m .fewEdges);
+      }
+
+  pub test-sized : Sized (testSpace x) C
+  test-sized = sized (x .test) (dims-small (x .test) (x .trial) (ok .dims) .0)
+
+  pub trial-sized : Sized (trialSpace x) C
+  trial-sized = sized (x .trial) (dims-small (x .test) (x .trial) (ok .dims) .1)
+
+  -- what `cell_colouring` asks
+  pub colourable : (colours : List ℕ) → length colours ≡ C → Colourable C (x .mesh .cellVertices) (x .mesh .cellEdges) colours
+  colourable colours e =
+      let m = mesh-fine in
+      record { cells = m .fewCells; vertex-list = m .vertexPlaces; edge-list = m .edgePlaces; places = e }
+
+  -- what the work list asks
+  touchable : Touchable (x .mesh .vertices) (x .mesh .cellVertices)
+  unfolding verticesRight
+  touchable =
+      record {
+        cells = C;
+        size = mesh-fine .vertexPlaces;
+        below = and-right _ _ (and-left _ _ (ok .vertices));
+        apart = and-right _ _ (ok .vertices);
+        patterns = ok .patterns;
+      }
+
+  counts : Countable (bare C (x .mesh .vertices) (x .mesh .cellVertices)) (x .batch) (colourList (testSpace x) C) (colourList (trialSpace x) C)
+  counts =
+      let c = counted x l ok in
+      record {
+        batch = c .batch;
+        testColours = c .testColours;
+        trialColours = c .trialColours;
+        vertices = c .vertices;
+        patterns = c .patterns;
+      }
+
+  pub ready : (work : List ℕ) → length work ≡ 3 * (C * C) → (tn rn : ℕ) → tn ≡ colourCount (colourList (testSpace x) C) → rn ≡ colourCount (colourList (trialSpace x) C)
+      → WorkReady (bare C (x .mesh .vertices) (x .mesh .cellVertices)) (x .batch) (colourList (testSpace x) C) tn (colourList (trialSpace x) C) rn work
+  unfolding batchRight
+  ready work long tn rn t r =
+      let m = mesh-fine in
+      record {
+        counts = counts;
+        touchable = touchable;
+        long = m .vertexPlaces;
+        cells = m .fewCells;
+        top = m .fewVertices;
+        batch = omega (arith, within-high 1 65535 (x .batch) (ok .batch));
+        test = t;
+        trial = r;
+        test-few = omega (arith, t, count-at-most (testSpace x) C, m .fewCells);
+        trial-few = omega (arith, r, count-at-most (trialSpace x) C, m .fewCells);
+        room = long;
+      }
+
+  -- N fits, and S is what is left of C·C
+  pub pairs-few : C * C ≤ 4194304
+  pairs-few = mul-le-mul (mesh-fine .fewCells) (mesh-fine .fewCells)
+
+  pub distant-few : distantPairs (x .mesh) ≤ C * C
+  distant-few = omega (arith, split (x .mesh))
+
+  pub touching-rest : (n : ℕ) → n ≡ distantPairs (x .mesh) → C * C - n ≡ sharingPairs (x .mesh)
+  touching-rest n e = omega (arith, e, split (x .mesh))
+
+  -- ---- with the numbers and lists that the code has in hand
+
+  module _ {C′ : ℕ} (c : C′ ≡ C) where
+    pub ready-at : {top B tn rn : ℕ} {ts rs : List ℕ} (work : List ℕ) → top ≡ x .mesh .vertices → B ≡ x .batch
+        → ts ≡ colourList (testSpace x) C′ → rs ≡ colourList (trialSpace x) C′ → (nt nr : ℕ) → tn ≡ nt → rn ≡ nr
+        → nt ≡ colourCount (colourList (testSpace x) C′) → nr ≡ colourCount (colourList (trialSpace x) C′) → length work ≡ 3 * (C * C)
+        → WorkReady (bare C′ top (x .mesh .cellVertices)) B ts tn rs rn work
+    ready-at work v b t r nt nr wt wr et er long =
+        let t′ : _ ≡ colourList (testSpace x) C = t ∙ ap (colourList (testSpace x)) c in
+        let r′ : _ ≡ colourList (trialSpace x) C = r ∙ ap (colourList (trialSpace x)) c in
+        rw (c, v, b, t′, r′)
+        (ready work long _ _
+        (wt ∙ et ∙ ap (λ (n : ℕ). colourCount (colourList (testSpace x) n)) c)
+        (wr ∙ er ∙ ap (λ (n : ℕ). colourCount (colourList (trialSpace x) n)) c))
+
+    module _ {top B n : ℕ} {ts rs work : List ℕ} (w : Written (bare C′ top (x .mesh .cellVertices)) B ts rs work n) where
+      distant-is : n ≡ distantPairs (x .mesh)
+      distant-is = w .distant ∙ ap (λ (k : ℕ). distantPairs (bare k top (x .mesh .cellVertices))) c ∙ bare-distant (x .mesh) top
+
+      pub distant-fits : n ≤ C * C
+      distant-fits = omega (arith, distant-is, distant-few)
+
+      pub numbers-are : {rows columns : ℕ} → rows ≡ dofCount (testSpace x) C′ → columns ≡ dofCount (trialSpace x) C′
+          → record {
+            cells = C;
+            vertices = x .mesh .vertices;
+            edges = x .mesh .edges;
+            touching = C * C - n;
+            distant = n;
+            rows = rows;
+            columns = columns;
+            test = x .test;
+            trial = x .trial;
+            integrand = x .integrand;
+          } ≡ planNumbers x
+      unfolding planNumbers
+      numbers-are r k = rw (touching-rest n distant-is, distant-is, r ∙ ap (dofCount (testSpace x)) c, k ∙ ap (dofCount (trialSpace x)) c)
+
+      pub lists-are : {td rd to ro : List ℕ} → top ≡ x .mesh .vertices → B ≡ x .batch → td ≡ dofList (testSpace x) C′ → rd ≡ dofList (trialSpace x) C′
+          → ts ≡ colourList (testSpace x) C′ → rs ≡ colourList (trialSpace x) C′
+          → to ≡ ownerList (testSpace x) C′ ++ drop (3 * dofCount (testSpace x) C′) (l .testOwners)
+          → ro ≡ ownerList (trialSpace x) C′ ++ drop (3 * dofCount (trialSpace x) C′) (l .trialOwners)
+          → listsOf td rd ts rs to ro work ≡ writtenLists x l
+      unfolding writtenLists
+      lists-are v b td rd t r to ro =
+          let work-is : work ≡ flat (workList (x .mesh) (x .batch) (colourList (testSpace x) C) (colourList (trialSpace x) C)) =
+          w .list
+          ∙ rw (t, r, b, v, c) refl
+          ∙ ap flat (bare-work (x .mesh) (x .batch) _ _) in
+          rw (td, rd, t, r, to, ro, work-is, c)
+
+-- ---- the two ways the call ends
+
+pub plan-refused : (x : Planning) (l : Lists) (v : ℕ) → v ≡ planRefusal x l → (v ≡ 0 → ⊥) → (PlanRefused v ≡ plan x l) × (l ≡ planLists x l)
+unfolding plan planLists
+plan-refused x l v e h = rw (← e) (go v h)
+  where
+    go : (v : ℕ) → (v ≡ 0 → ⊥) → (PlanRefused v ≡ planAnswer v (planNumbers x)) × (l ≡ unlessRefused v (writtenLists x l) l)
+    go zero h = absurd (h refl)
+    go (suc v) h = (refl, refl)
+
+pub plan-ready : (x : Planning) (l l′ : Lists) (r : PlanNumbers) → planRefusal x l ≡ 0 → r ≡ planNumbers x → l′ ≡ writtenLists x l
+    → (Ready r ≡ plan x l) × (l′ ≡ planLists x l)
+unfolding plan planLists
+plan-ready x l l′ r e n w = rw (e, n, w) (refl, refl)
