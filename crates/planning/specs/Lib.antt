@@ -3,3 +3,4 @@ pub mod Arguments
 pub mod Facts
 pub mod Work
 pub mod Plan
+pub mod Promises
