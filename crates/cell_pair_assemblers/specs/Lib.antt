@@ -1,4 +1,5 @@
 -- What is lent, with checks 9 to 11 (`Lent`), the local entries (`Entries`), and the examples of these (`Examples`).
 pub mod Lent
 pub mod Entries
+pub mod Facts
 pub mod Examples

@@ -3,4 +3,6 @@ pub mod Floats
 pub mod Terms
 pub mod Values
 pub mod TermFacts
+pub mod Columns
+pub mod ValueFacts
 pub mod Examples

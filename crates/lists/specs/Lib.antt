@@ -8,6 +8,7 @@ pub mod Fold
 pub mod Stores
 pub mod Writes
 pub mod Places
+pub mod Maps
 pub mod Refusals
 pub mod Examples
 pub mod Buckets

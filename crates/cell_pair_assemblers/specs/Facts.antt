@@ -1,0 +1,300 @@
+-- Laws on what is lent: what the checks that passed say of the lengths, and the sums of the points passed. Assumes nothing.
+use Prim.Native.Nat.{ℕ, _+_, _*_, _<_, _≤_}
+use native.Mathlib.Nat.{mul-le-mul-left, mul-le-mul-right}
+use native.Mathlib.Omega.{arith}
+use mathlib.Core.Bool.{true, false, not, _&&_}
+use mathlib.Core.Path.{_≡_, refl, sym, _∙_}
+use mathlib.Core.List.{List}
+use lib.ListN.{length, replicate, length-replicate, getD-replicate}
+use lib.Dec.{leb}
+use lib.Ieee.{Float, nan}
+use borrow.Author.Tests.{eqb-true, leb-true, not-false}
+use Rattle.lists.specs.Bool.{_and_, and-left, and-right}
+use Rattle.lists.specs.Fold.{upto, upto-none, upto-more}
+use Rattle.lists.specs.Places.{in-row, in-rectangle}
+use Rattle.lists.specs.Refusals.{refusal, refusal-zero}
+use Rattle.integrands.specs.declared.Integrand.{Integrand}
+use Rattle.integrands.specs.declared.Geometry.{Geometry}
+use Rattle.integrands.specs.Floats.{0·0, _⊕_, _⊗_, _!_}
+use Rattle.integrands.specs.Terms.{kindOf, kernelWidth, tableRows}
+use Rattle.integrands.specs.ValueFacts.{plainKind, plain-first}
+use Rattle.integrands.specs.Values.{geometryAt, pointValue}
+use Rattle.integrands.specs.Columns.{Held, Table, rows-some, width-some, hundred-place, first-reads}
+use Rattle.cell_pair_assemblers.specs.declared.LocalMatrix.{LocalMatrix}
+use Rattle.cell_pair_assemblers.specs.Lent.{Touching, Distant, touchingCount, touchingLengths, touchingChecks, distantCounts, distantLengths, distantChecks}
+use Rattle.cell_pair_assemblers.specs.Entries.{rowsAt, touchingValue, touchingSummand, touchingEntry, distantValue, distantSummand, distantEntry}
+
+abbrev pub touching : ℕ → List Float → List Float → List Float → List Float → List Float → List Float → Touching
+touching points weights testTable trialTable kernel testGeometry trialGeometry =
+    record { points = points; weights = weights; testTable = testTable; trialTable = trialTable; kernel = kernel; testGeometry = testGeometry; trialGeometry = trialGeometry }
+
+abbrev pub distant : ℕ → ℕ → List Float → List Float → List Float → List Float → List Float → List Float → List Float → Distant
+distant testPoints trialPoints testWeights trialWeights testTable trialTable kernel testGeometry trialGeometry =
+    record { testPoints = testPoints; trialPoints = trialPoints; testWeights = testWeights; trialWeights = trialWeights; testTable = testTable; trialTable = trialTable; kernel = kernel; testGeometry = testGeometry; trialGeometry = trialGeometry }
+
+-- ---- what the work needs: at most ten basis functions, a point count in its range, and the lengths of check 10
+
+pub record TouchingFits (f : Integrand) (m n : ℕ) (a : Touching) : Type 0 where
+  pub testFew : m ≤ 10
+  pub trialFew : n ≤ 10
+  pub count : a .points ≤ 2048
+  pub lengths : touchingLengths f m n a ≡ true
+
+pub record DistantFits (f : Integrand) (m n : ℕ) (a : Distant) : Type 0 where
+  pub testFew : m ≤ 10
+  pub trialFew : n ≤ 10
+  pub testCount : a .testPoints ≤ 64
+  pub trialCount : a .trialPoints ≤ 64
+  pub lengths : distantLengths f m n a ≡ true
+
+-- the lengths, as equations
+pub record TouchingSizes (f : Integrand) (m n : ℕ) (a : Touching) : Type 0 where
+  pub weights : length (a .weights) ≡ a .points
+  pub testTable : length (a .testTable) ≡ tableRows f * (a .points * m)
+  pub trialTable : length (a .trialTable) ≡ tableRows f * (a .points * n)
+  pub kernel : length (a .kernel) ≡ kernelWidth f * a .points
+  pub testGeometry : length (a .testGeometry) ≡ 10 * a .points
+  pub trialGeometry : length (a .trialGeometry) ≡ 10 * a .points
+
+pub record DistantSizes (f : Integrand) (m n : ℕ) (a : Distant) : Type 0 where
+  pub testWeights : length (a .testWeights) ≡ a .testPoints
+  pub trialWeights : length (a .trialWeights) ≡ a .trialPoints
+  pub testTable : length (a .testTable) ≡ tableRows f * (a .testPoints * m)
+  pub trialTable : length (a .trialTable) ≡ tableRows f * (a .trialPoints * n)
+  pub kernel : length (a .kernel) ≡ kernelWidth f * (a .testPoints * a .trialPoints)
+  pub testGeometry : length (a .testGeometry) ≡ 10 * a .testPoints
+  pub trialGeometry : length (a .trialGeometry) ≡ 10 * a .trialPoints
+
+pub touching-sizes : (f : Integrand) (m n : ℕ) (a : Touching) → touchingLengths f m n a ≡ true → TouchingSizes f m n a
+unfolding touchingLengths
+touching-sizes f m n a e =
+    let e5 = and-left _ _ e in
+    let e4 = and-left _ _ e5 in
+    let e3 = and-left _ _ e4 in
+    let e2 = and-left _ _ e3 in
+    record {
+      weights = eqb-true _ _ (and-left _ _ e2);
+      testTable = eqb-true _ _ (and-right _ _ e2);
+      trialTable = eqb-true _ _ (and-right _ _ e3);
+      kernel = eqb-true _ _ (and-right _ _ e4);
+      testGeometry = eqb-true _ _ (and-right _ _ e5);
+      trialGeometry = eqb-true _ _ (and-right _ _ e);
+    }
+
+pub distant-sizes : (f : Integrand) (m n : ℕ) (a : Distant) → distantLengths f m n a ≡ true → DistantSizes f m n a
+unfolding distantLengths
+distant-sizes f m n a e =
+    let e6 = and-left _ _ e in
+    let e5 = and-left _ _ e6 in
+    let e4 = and-left _ _ e5 in
+    let e3 = and-left _ _ e4 in
+    let e2 = and-left _ _ e3 in
+    record {
+      testWeights = eqb-true _ _ (and-left _ _ e2);
+      trialWeights = eqb-true _ _ (and-right _ _ e2);
+      testTable = eqb-true _ _ (and-right _ _ e3);
+      trialTable = eqb-true _ _ (and-right _ _ e4);
+      kernel = eqb-true _ _ (and-right _ _ e5);
+      testGeometry = eqb-true _ _ (and-right _ _ e6);
+      trialGeometry = eqb-true _ _ (and-right _ _ e);
+    }
+
+-- ---- no length of check 10 wraps
+
+product-le : (a b A B : ℕ) → a ≤ A → b ≤ B → a * b ≤ A * B
+product-le a b A B ha hb = omega (arith, mul-le-mul-left a hb, mul-le-mul-right B ha)
+
+pub small-table : (f : Integrand) (P m : ℕ) → P ≤ 2048 → m ≤ 10 → (P * m ≤ 20480) × (tableRows f * (P * m) ≤ 61440)
+small-table f P m hp hm =
+    let inner : P * m ≤ 20480 = product-le P m 2048 10 hp hm in
+    (inner, product-le (tableRows f) (P * m) 3 20480 (rows-some f .1) inner)
+
+pub small-kernel : (f : Integrand) (n : ℕ) → n ≤ 4096 → kernelWidth f * n ≤ 16384
+small-kernel f n h = product-le (kernelWidth f) n 4 4096 (width-some f .1) h
+
+pub small-pairs : (T R : ℕ) → T ≤ 64 → R ≤ 64 → T * R ≤ 4096
+small-pairs T R ht hr = product-le T R 64 64 ht hr
+
+-- ---- what a point reads
+
+pub touching-test-table : {f : Integrand} {m n : ℕ} {a : Touching} → TouchingFits f m n a → (q : ℕ) → q < a .points → Table (tableRows f) (a .points) q m (a .testTable)
+touching-test-table {f} {m} {n} {a} h q l =
+    let s = touching-sizes f m n a (h .lengths) in
+    record { point = l; rows = rows-some f .0; few = h .testFew; reach = omega (arith, s .testTable) }
+
+pub touching-trial-table : {f : Integrand} {m n : ℕ} {a : Touching} → TouchingFits f m n a → (q : ℕ) → q < a .points → Table (tableRows f) (a .points) q n (a .trialTable)
+touching-trial-table {f} {m} {n} {a} h q l =
+    let s = touching-sizes f m n a (h .lengths) in
+    record { point = l; rows = rows-some f .0; few = h .trialFew; reach = omega (arith, s .trialTable) }
+
+pub touching-kernel : {f : Integrand} {m n : ℕ} {a : Touching} → TouchingFits f m n a → (q : ℕ) → q < a .points → kernelWidth f * q + kernelWidth f ≤ length (a .kernel)
+touching-kernel {f} {m} {n} {a} h q l = omega (arith, touching-sizes f m n a (h .lengths) .kernel, in-row (kernelWidth f) (a .points) q l)
+
+pub distant-test-table : {f : Integrand} {m n : ℕ} {a : Distant} → DistantFits f m n a → (t : ℕ) → t < a .testPoints → Table (tableRows f) (a .testPoints) t m (a .testTable)
+distant-test-table {f} {m} {n} {a} h t l =
+    let s = distant-sizes f m n a (h .lengths) in
+    record { point = l; rows = rows-some f .0; few = h .testFew; reach = omega (arith, s .testTable) }
+
+pub distant-trial-table : {f : Integrand} {m n : ℕ} {a : Distant} → DistantFits f m n a → (r : ℕ) → r < a .trialPoints → Table (tableRows f) (a .trialPoints) r n (a .trialTable)
+distant-trial-table {f} {m} {n} {a} h r l =
+    let s = distant-sizes f m n a (h .lengths) in
+    record { point = l; rows = rows-some f .0; few = h .trialFew; reach = omega (arith, s .trialTable) }
+
+pub distant-kernel : {f : Integrand} {m n : ℕ} {a : Distant} → DistantFits f m n a → (t r : ℕ) → t < a .testPoints → r < a .trialPoints
+    → kernelWidth f * (t + a .testPoints * r) + kernelWidth f ≤ length (a .kernel)
+distant-kernel {f} {m} {n} {a} h t r lt lr =
+    omega (arith, distant-sizes f m n a (h .lengths) .kernel, in-row (kernelWidth f) (a .testPoints * a .trialPoints) (t + a .testPoints * r) (in-rectangle (a .testPoints) (a .trialPoints) t r lt lr))
+
+pub touching-geometry : {f : Integrand} {m n : ℕ} {a : Touching} → TouchingFits f m n a → (q : ℕ) → q < a .points
+    → (10 * q + 10 ≤ length (a .testGeometry)) × (10 * q + 10 ≤ length (a .trialGeometry)) × (q < length (a .weights))
+touching-geometry {f} {m} {n} {a} h q l =
+    let s = touching-sizes f m n a (h .lengths) in
+    (omega (arith, s .testGeometry), omega (arith, s .trialGeometry), omega (arith, s .weights))
+
+pub distant-geometry : {f : Integrand} {m n : ℕ} {a : Distant} → DistantFits f m n a → (t : ℕ) → t < a .testPoints
+    → (10 * t + 10 ≤ length (a .testGeometry)) × (t < length (a .testWeights))
+distant-geometry {f} {m} {n} {a} h t l =
+    let s = distant-sizes f m n a (h .lengths) in
+    (omega (arith, s .testGeometry), omega (arith, s .testWeights))
+
+pub distant-trial-geometry : {f : Integrand} {m n : ℕ} {a : Distant} → DistantFits f m n a → (r : ℕ) → r < a .trialPoints
+    → (10 * r + 10 ≤ length (a .trialGeometry)) × (r < length (a .trialWeights))
+distant-trial-geometry {f} {m} {n} {a} h r l =
+    let s = distant-sizes f m n a (h .lengths) in
+    (omega (arith, s .trialGeometry), omega (arith, s .trialWeights))
+
+-- where a pair of points stands in the kernel values
+pub distant-pair : {f : Integrand} {m n : ℕ} {a : Distant} → DistantFits f m n a → (t r : ℕ) → t < a .testPoints → r < a .trialPoints
+    → (a .testPoints * r ≤ 4096) × (t + a .testPoints * r < 4096)
+distant-pair {f} {m} {n} {a} h t r lt lr =
+    let inside = in-rectangle (a .testPoints) (a .trialPoints) t r lt lr in
+    let most = small-pairs (a .testPoints) (a .trialPoints) (h .testCount) (h .trialCount) in
+    (omega (arith, inside, most), omega (arith, inside, most))
+
+-- ---- the sums of the points passed
+
+module _ (f : Integrand) where
+  unfoldable pub touchingSum : Touching → ℕ → ℕ → ℕ → Float
+  touchingSum a i j q = upto (λ (p : ℕ) (sum : Float). sum ⊕ touchingSummand f a i j p) q 0·0
+
+  -- the test points before t
+  unfoldable pub distantRows : Distant → ℕ → ℕ → ℕ → Float
+  distantRows a i j t =
+      upto (λ (t : ℕ) (sum : Float). upto (λ (r : ℕ) (s : Float). s ⊕ distantSummand f a i j t r) (a .trialPoints) sum) t 0·0
+
+  -- and test point t with the trial points before r
+  unfoldable pub distantSum : Distant → ℕ → ℕ → ℕ → ℕ → Float
+  distantSum a i j t r = upto (λ (r : ℕ) (s : Float). s ⊕ distantSummand f a i j t r) r (distantRows a i j t)
+
+  pub touching-start : (a : Touching) (i j : ℕ) → 0·0 ≡ touchingSum a i j 0
+  unfolding touchingSum
+  touching-start a i j = sym (upto-none (λ (p : ℕ) (sum : Float). sum ⊕ touchingSummand f a i j p) 0·0)
+
+  -- one point more, with its geometry, the width and the rows as the code has them
+  pub touching-more : (a : Touching) (i j q K D : ℕ) (g h : Geometry) {x : Float} → g ≡ geometryAt (a .testGeometry) q → h ≡ geometryAt (a .trialGeometry) q
+      → K ≡ kernelWidth f → D ≡ tableRows f
+      → x ≡ pointValue f (λ d. a .kernel ! (d + K * q)) (rowsAt (a .testTable) D (a .points) q i) (rowsAt (a .trialTable) D (a .points) q j) g h
+      → touchingSum a i j q ⊕ x ⊗ (a .weights ! q ⊗ (g .jdet ⊗ h .jdet)) ≡ touchingSum a i j (q + 1)
+  unfolding touchingSum touchingSummand touchingValue
+  touching-more a i j q K D g h {x} eg eh ek ed e =
+      rw (e, eg, eh, ek, ed) (sym (upto-more (λ (p : ℕ) (sum : Float). sum ⊕ touchingSummand f a i j p) q 0·0))
+
+  pub touching-end : (a : Touching) (i j : ℕ) → touchingSum a i j (a .points) ≡ touchingEntry f a i j
+  unfolding touchingSum touchingEntry
+  touching-end a i j = refl
+
+  pub distant-start : (a : Distant) (i j : ℕ) → 0·0 ≡ distantRows a i j 0
+  unfolding distantRows
+  distant-start a i j = sym (upto-none (λ (t : ℕ) (sum : Float). upto (λ (r : ℕ) (s : Float). s ⊕ distantSummand f a i j t r) (a .trialPoints) sum) 0·0)
+
+  pub distant-row-start : (a : Distant) (i j t : ℕ) → distantRows a i j t ≡ distantSum a i j t 0
+  unfolding distantSum
+  distant-row-start a i j t = sym (upto-none (λ (r : ℕ) (s : Float). s ⊕ distantSummand f a i j t r) (distantRows a i j t))
+
+  pub distant-more : (a : Distant) (i j t r K D : ℕ) (g h : Geometry) {x v : Float} → g ≡ geometryAt (a .testGeometry) t → h ≡ geometryAt (a .trialGeometry) r
+      → K ≡ kernelWidth f → D ≡ tableRows f → v ≡ a .testWeights ! t ⊗ g .jdet
+      → x ≡ pointValue f (λ d. a .kernel ! (d + K * (t + a .testPoints * r))) (rowsAt (a .testTable) D (a .testPoints) t i) (rowsAt (a .trialTable) D (a .trialPoints) r j) g h
+      → distantSum a i j t r ⊕ x ⊗ (a .trialWeights ! r ⊗ h .jdet) ⊗ v ≡ distantSum a i j t (r + 1)
+  unfolding distantSum distantSummand distantValue
+  distant-more a i j t r K D g h {x} {v} eg eh ek ed ev e =
+      rw (e, ev, eg, eh, ek, ed) (sym (upto-more (λ (r : ℕ) (s : Float). s ⊕ distantSummand f a i j t r) r (distantRows a i j t)))
+
+  pub distant-row-end : (a : Distant) (i j t : ℕ) → distantSum a i j t (a .trialPoints) ≡ distantRows a i j (t + 1)
+  unfolding distantSum distantRows
+  distant-row-end a i j t = sym (upto-more (λ (t : ℕ) (sum : Float). upto (λ (r : ℕ) (s : Float). s ⊕ distantSummand f a i j t r) (a .trialPoints) sum) t 0·0)
+
+  pub distant-end : (a : Distant) (i j : ℕ) → distantRows a i j (a .testPoints) ≡ distantEntry f a i j
+  unfolding distantRows distantEntry
+  distant-end a i j = refl
+
+-- every entry starts at 0
+zeros : {m n : ℕ} (v : ℕ → ℕ → Float) → m ≤ 10 → n ≤ 10 → ((i j : ℕ) → 0·0 ≡ v i j) → Held m n (replicate 100 0·0) v
+zeros {m} {n} v hm hn e =
+    record {
+      size = length-replicate {A = Float} 100 0·0;
+      at = λ i j l b. getD-replicate 100 (i + m * j) 0·0 nan (hundred-place m i j hm l (omega arith)) ∙ e i j;
+    }
+
+pub touching-begin : (f : Integrand) {m n : ℕ} (a : Touching) → m ≤ 10 → n ≤ 10 → Held m n (replicate 100 0·0) (λ i j. touchingSum f a i j 0)
+touching-begin f a hm hn = zeros (λ i j. touchingSum f a i j 0) hm hn (touching-start f a)
+
+pub distant-begin : (f : Integrand) {m n : ℕ} (a : Distant) → m ≤ 10 → n ≤ 10 → Held m n (replicate 100 0·0) (λ i j. distantRows f a i j 0)
+distant-begin f a hm hn = zeros (λ i j. distantRows f a i j 0) hm hn (distant-start f a)
+
+-- ---- what is handed back: the dims, and each entry, test basis i and trial basis j at i + m·j
+
+pub record TouchingEntries (f : Integrand) (m n : ℕ) (a : Touching) (r : LocalMatrix) : Type 0 where
+  pub testDim : r .«test_dim» ≡ m
+  pub trialDim : r .«trial_dim» ≡ n
+  pub entries : (i j : ℕ) → i < m → j < n → r .entries ! (i + m * j) ≡ touchingEntry f a i j
+
+pub record DistantEntries (f : Integrand) (m n : ℕ) (a : Distant) (r : LocalMatrix) : Type 0 where
+  pub testDim : r .«test_dim» ≡ m
+  pub trialDim : r .«trial_dim» ≡ n
+  pub entries : (i j : ℕ) → i < m → j < n → r .entries ! (i + m * j) ≡ distantEntry f a i j
+
+-- ---- a local matrix may be worked out where the checks pass
+
+pub touching-fits : (f : Integrand) (m n : ℕ) (a : Touching) → m ≤ 10 → n ≤ 10 → refusal (touchingChecks f m n a) ≡ 0 → TouchingFits f m n a
+unfolding touchingCount
+touching-fits f m n a hm hn e =
+    record {
+      testFew = hm;
+      trialFew = hn;
+      count = leb-true _ _ (and-right (leb 1 (a .points)) _ (refusal-zero 8 _ _ e .0));
+      lengths = refusal-zero 9 _ _ (refusal-zero 8 _ _ e .1) .0;
+    }
+
+pub distant-fits : (f : Integrand) (m n : ℕ) (a : Distant) → m ≤ 10 → n ≤ 10 → refusal (distantChecks f m n a) ≡ 0 → DistantFits f m n a
+unfolding distantCounts
+distant-fits f m n a hm hn e =
+    let counts = refusal-zero 8 _ _ e .0 in
+    record {
+      testFew = hm;
+      trialFew = hn;
+      testCount = leb-true _ _ (and-right (leb 1 (a .testPoints)) _ (and-left _ _ counts));
+      trialCount = leb-true _ _ (and-right (leb 1 (a .trialPoints)) _ (and-right _ _ counts));
+      lengths = refusal-zero 9 _ _ (refusal-zero 8 _ _ e .1) .0;
+    }
+
+-- ---- the tests of a point count, as the code has them
+
+pub count-most : (x : ℕ) → not (leb 1 x && leb x 2048) ≡ false → x ≤ 2048
+unfolding _and_
+count-most x e = leb-true x 2048 (and-right (leb 1 x) (leb x 2048) (not-false _ e))
+
+pub counts-most : (x y : ℕ) → not ((leb 1 x && leb x 64) && (leb 1 y && leb y 64)) ≡ false → (x ≤ 64) × (y ≤ 64)
+unfolding _and_
+counts-most x y e =
+    let both = not-false _ e in (
+      leb-true x 64 (and-right (leb 1 x) (leb x 64) (and-left (leb 1 x and leb x 64) (leb 1 y and leb y 64) both)),
+      leb-true y 64 (and-right (leb 1 y) (leb y 64) (and-right (leb 1 x and leb x 64) (leb 1 y and leb y 64) both)),
+    )
+
+-- what one bare term other than curl-curl reads of the kernel values
+pub plain-reads : (f : Integrand) (kind at : ℕ) (kernel : List Float) → kind ≡ plainKind f → (kind ≡ 3 → ⊥) → at + kernelWidth f ≤ length kernel
+    → (at < length kernel) × (kind ≡ 1 → at + 4 ≤ length kernel) × (kind ≡ 2 → at + 4 ≤ length kernel)
+plain-reads f kind at kernel e h lent =
+    let first : kind ≡ kindOf (f .first) = e ∙ plain-first f (λ q. h (e ∙ q)) in
+    let reads = first-reads f {kernel = kernel} lent in
+    (reads .first, λ q. reads .double (sym first ∙ q), λ q. reads .adjoint (sym first ∙ q))
