@@ -3,6 +3,7 @@ pub mod Planning
 pub mod Runs
 pub mod Accepted
 pub mod RunFacts
+pub mod AddFacts
 pub mod Machine
 pub mod Calls
 pub mod Whole

@@ -4,6 +4,7 @@ use native.Mathlib.Nat.{mul-le-mul, mul-comm, mul-le-mul-left}
 use native.Mathlib.Omega.{arith}
 use mathlib.Core.Path.{_≡_, refl}
 use mathlib.Core.Bool.{Bool, true, false}
+use mathlib.Core.List.{List}
 use lib.ListN.{length}
 use borrow.Author.Tests.{leb-true, eqb-true, eqb-false, ltb-true, eq-eqb, ne-eqb, not-true}
 use Rattle.lists.specs.Bool.{_and_, and-left, and-right}
@@ -16,6 +17,10 @@ use Rattle.boundary_assemblers.specs.declared.Run.{Run}
 use Rattle.boundary_assemblers.specs.declared.WorkRecord.{WorkRecord}
 use Rattle.boundary_assemblers.specs.declared.Looked.the-variants.{Refused as LookRefused}
 use Rattle.boundary_assemblers.specs.Runs.{Plan, pairs, testDim, trialDim, recordOf, cellDofs, testDofsOf, trialDofsOf, rangesRight, placesRight, planRight, pairLeft, recordKnown, recordRight, stateChecks, lookAnswer}
+
+-- the plan that a call is lent
+abbrev pub plan : List ℕ → List ℕ → List ℕ → Plan
+plan testDofs trialDofs work = record { testDofs = testDofs; trialDofs = trialDofs; work = work }
 
 -- 21: the ranges
 pub record Ranges (r : Run) : Type 0 where

@@ -138,7 +138,13 @@ impl Run {
     }
 
     // 21, 20, 22, which every call checks. `sized`: what is lent beside the plan has its length.
-    fn state_refusal(self, test_dofs: &[u32], trial_dofs: &[u32], work: &[u32], sized: bool) -> u32
+    pub(crate) fn state_refusal(
+        self,
+        test_dofs: &[u32],
+        trial_dofs: &[u32],
+        work: &[u32],
+        sized: bool,
+    ) -> u32
         ensures { λ r. ⌜ r ≡ refusal (stateChecks self (record { testDofs = now («test_dofs» .entry); trialDofs = now («trial_dofs» .entry); work = now (work .entry) }) sized) ⌝ }
     {
         if !self.ranges_right() {

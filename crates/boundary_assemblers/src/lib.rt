@@ -1,4 +1,5 @@
 // Planning, and the run.
+mod adds;
 mod calls;
 
 use function::Element;

@@ -1,9 +1,9 @@
 -- `local_matrix::add_column` meets its contract: the invariant is that the matrix is the fold over the test basis passed, and as long as it was.
 -- Assumes nothing.
-use Prim.Native.Nat.{ℕ, _-_}
+use Prim.Native.Nat.{ℕ, _+_, _*_, _-_, _<_}
 use native.Mathlib.Omega.{arith}
 use borrow.Author.Needs.{needs}
-use lib.ListN.{length}
+use lib.ListN.{length, getD}
 use Rattle.lists.specs.Fold.{Folded, folded-start, folded-done}
 use Rattle.local_matrix.specs.Adding.{addAt}
 use Rattle.local_matrix.specs.Entries.{entryAt, addRow}
@@ -18,6 +18,16 @@ Inv-loop matrix₀ rows base test-dofs entries j m i₀ matrix i =
 abbrev μ-loop : tie.MeasureT-loop
 μ-loop matrix₀ rows base test-dofs entries j m i₀ matrix i = m - i
 
+-- the row of test basis i, and the place of its entry
+row : (c : tie.In-loop Inv-loop μ-loop) → getD (c .before .before .before .before .args .test-dofs .now) (c .before .loop .i) 0 < c .before .before .before .before .args .rows
+row c = c .before .before .before .before .pre .test (c .before .loop .i) (c .loop-test .taken)
+
+entry : (c : tie.In-loop Inv-loop μ-loop)
+    → c .before .loop .i + length (c .before .before .before .before .args .test-dofs .now) * c .before .before .before .before .args .j < 100
+entry c =
+    let pre = c .before .before .before .before .pre in
+    in-hundred (pre .few) (c .loop-test .taken) (pre .basis) .1
+
 loop-holds : tie.Need-loop-holds Inv-loop μ-loop
 loop-holds c = folded-start _ _ _
 
@@ -31,31 +41,31 @@ wide-requires : tie.Need-wide-requires Inv-loop μ-loop
 wide-requires c κs = search needs
 
 add-at : tie.Need-add-at Inv-loop μ-loop
-add-at c = omega (arith, c .before .before .before .before .before .before .pre .test (c .before .before .before .loop .i) (c .before .before .loop-test .taken))
+add-at c = omega (arith, row (c .before .before))
 
 mul-v : tie.Need-mul-v Inv-loop μ-loop
-mul-v c = omega (arith, in-hundred (c .before .before .before .before .before .before .pre .few) (c .before .before .loop-test .taken) (c .before .before .before .before .before .before .pre .basis))
+mul-v c = omega (arith, entry (c .before .before))
 
 add-v : tie.Need-add-v Inv-loop μ-loop
-add-v c = omega (arith, in-hundred (c .before .before .before .before .before .before .pre .few) (c .before .before .loop-test .taken) (c .before .before .before .before .before .before .pre .basis))
+add-v c = omega (arith, entry (c .before .before))
 
 mul-v-2 : tie.Need-mul-v-2 Inv-loop μ-loop
-mul-v-2 c = omega (arith, in-hundred (c .before .before .before .before .before .before .pre .few) (c .before .before .loop-test .taken) (c .before .before .before .before .before .before .pre .basis))
+mul-v-2 c = omega (arith, entry (c .before .before))
 
 element-copy-out-v : tie.Need-element-copy-out-v Inv-loop μ-loop
-element-copy-out-v c = omega (arith, in-hundred (c .before .before .before .before .before .before .pre .few) (c .before .before .loop-test .taken) (c .before .before .before .before .before .before .pre .basis))
+element-copy-out-v c = omega (arith, entry (c .before .before))
 
 mul-matrix : tie.Need-mul-matrix Inv-loop μ-loop
-mul-matrix c = omega (arith, c .before .before .before .before .before .before .before .pre .test (c .before .before .before .before .loop .i) (c .before .before .before .loop-test .taken))
+mul-matrix c = omega (arith, row (c .before .before .before))
 
 slice-read-matrix : tie.Need-slice-read-matrix Inv-loop μ-loop
-slice-read-matrix c = omega (arith, c .before .before .before .before .before .before .before .before .pre .test (c .before .before .before .before .before .loop .i) (c .before .before .before .before .loop-test .taken))
+slice-read-matrix c = omega (arith, row (c .before .before .before .before))
 
 mul-matrix-2 : tie.Need-mul-matrix-2 Inv-loop μ-loop
-mul-matrix-2 c = omega (arith, c .before .before .before .before .before .before .before .before .pre .test (c .before .before .before .before .before .loop .i) (c .before .before .before .before .loop-test .taken))
+mul-matrix-2 c = omega (arith, row (c .before .before .before .before))
 
 slice-write-matrix : tie.Need-slice-write-matrix Inv-loop μ-loop
-slice-write-matrix c = omega (arith, c .before .before .before .before .before .before .before .before .pre .test (c .before .before .before .before .before .loop .i) (c .before .before .before .before .loop-test .taken))
+slice-write-matrix c = omega (arith, row (c .before .before .before .before))
 
 add-i : tie.Need-add-i Inv-loop μ-loop
 add-i c = omega arith

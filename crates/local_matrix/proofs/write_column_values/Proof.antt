@@ -1,6 +1,6 @@
 -- `local_matrix::write_column_values` meets its contract. The invariant of its loop: the entries of the test basis below i are written.
 -- Assumes nothing.
-use Prim.Native.Nat.{ℕ, _-_}
+use Prim.Native.Nat.{ℕ, _+_, _*_, _-_, _<_}
 use native.Mathlib.Omega.{arith}
 use Rattle.lists.specs.Writes.{Stores, stores-start, stores-turn, stores-done}
 use Rattle.local_matrix.specs.Entries.{entryAt}
@@ -14,20 +14,26 @@ Inv-loop values₀ at m entries j i₀ values i = Stores (λ (i : ℕ). entryAt 
 abbrev μ-loop : tie.MeasureT-loop
 μ-loop values₀ at m entries j i₀ values i = m - i
 
+-- no place of the local matrix is past the hundredth, be it traded or not: an entry read at the wrong one is refused as another entry
+places : (c : tie.In-loop Inv-loop μ-loop)
+    → (c .before .before .args .j + c .before .before .args .m * c .before .loop .i < 100)
+    × (c .before .loop .i + c .before .before .args .m * c .before .before .args .j < 100)
+places c = in-hundred (c .before .before .pre .1) (c .loop-test .taken) (c .before .before .pre .2)
+
 loop-holds : tie.Need-loop-holds Inv-loop μ-loop
 loop-holds c = stores-start _ _ _ _
 
 mul-values : tie.Need-mul-values Inv-loop μ-loop
-mul-values c = omega (arith, in-hundred (c .before .before .pre .1) (c .loop-test .taken) (c .before .before .pre .2))
+mul-values c = omega (arith, places c)
 
 add-values : tie.Need-add-values Inv-loop μ-loop
-add-values c = omega (arith, in-hundred (c .before .before .pre .1) (c .loop-test .taken) (c .before .before .pre .2))
+add-values c = omega (arith, places c)
 
 mul-values-2 : tie.Need-mul-values-2 Inv-loop μ-loop
-mul-values-2 c = omega (arith, in-hundred (c .before .before .pre .1) (c .loop-test .taken) (c .before .before .pre .2))
+mul-values-2 c = omega (arith, places c)
 
 element-copy-out-values : tie.Need-element-copy-out-values Inv-loop μ-loop
-element-copy-out-values c = omega (arith, in-hundred (c .before .before .pre .1) (c .loop-test .taken) (c .before .before .pre .2))
+element-copy-out-values c = omega (arith, places c)
 
 add-values-2 : tie.Need-add-values-2 Inv-loop μ-loop
 add-values-2 c = omega arith

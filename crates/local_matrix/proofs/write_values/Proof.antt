@@ -29,7 +29,7 @@ add-write-column-values c = omega (arith, blocks-room (c .before .before .loop .
 write-column-values-requires : tie.Need-write-column-values-requires Inv-loop μ-loop
 write-column-values-requires c κs =
     let pre = c .before .before .before .before .pre in
-    (blocks-room (c .before .before .loop .inv) (c .before .loop-test .taken) (c .before .before .before .before .pre .0), pre .1, omega arith)
+    (blocks-room (c .before .before .loop .inv) (c .before .loop-test .taken) (pre .0), pre .1, omega arith)
 
 add-j : tie.Need-add-j Inv-loop μ-loop
 add-j c = omega arith

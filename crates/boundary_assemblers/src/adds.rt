@@ -1,0 +1,302 @@
+// The adds: the local matrix of the pair at the run's position goes into the matrix.
+use crate::Added;
+use crate::Run;
+use crate::calls::cell_dofs;
+use crate::calls::record_at;
+use cell_pair_assemblers::LocalMatrix;
+use cell_pair_assemblers::distant_matrix;
+use cell_pair_assemblers::distant_refusal;
+use cell_pair_assemblers::touching_matrix;
+use cell_pair_assemblers::touching_refusal;
+use grid::wide;
+use local_matrix::add_local;
+ghost use mathlib.Core.Path.{_≡_};
+ghost use mathlib.Core.Bool.{not};
+ghost use Prim.Native.Nat.{_*_, _<_};
+ghost use Rattle.lists.specs.Bool.{_and_};
+ghost use Rattle.lists.specs.Refusals.{refusal};
+ghost use Rattle.cell_pair_assemblers.specs.Lent.{touchingChecks, distantChecks};
+ghost use Rattle.cell_pair_assemblers.specs.Facts.{touching, distant};
+ghost use Rattle.local_matrix.specs.Adding.{addLocal};
+ghost use Rattle.local_matrix.specs.Entries.{entryAt};
+ghost use Rattle.boundary_assemblers.specs.Runs.{testDim, trialDim, recordOf, testDofsOf, trialDofsOf, isTouching, isDistant, callChecks, matrixRight, advance, addTouching, touchingMatrix, addDistant, distantMatrix};
+ghost use Rattle.boundary_assemblers.specs.RunFacts.{plan, Standing};
+
+// A product of two u32, which fits.
+fn product(a: u32, b: u32) -> usize
+    ensures { λ r. ⌜ r ≡ a * b ⌝ }
+{
+    (a as usize) * (b as usize)
+}
+
+impl Run {
+    // 21: the matrix has its length.
+    fn matrix_right(self, matrix: &[f64]) -> bool
+        ensures { λ r. ⌜ r ≡ matrixRight self (now (matrix .entry)) ⌝ }
+    {
+        let n = self.numbers;
+        matrix.len() == product(n.rows, n.columns)
+    }
+
+    // The run at the next record.
+    fn advanced(self) -> Run
+        requires { ⌜ self .position < 4194304 ⌝ }
+        ensures { λ r. ⌜ r ≡ advance self ⌝ }
+    {
+        let n = self.numbers;
+        Run {
+            numbers: n,
+            entries: self.entries,
+            position: self.position + 1,
+        }
+    }
+
+    // Adds a local matrix at the DOFs of the two cells of record p.
+    fn add_matrix(
+        self,
+        test_dofs: &[u32],
+        trial_dofs: &[u32],
+        work: &[u32],
+        local: LocalMatrix,
+        matrix: &mut [f64],
+    )
+        requires { ⌜ Standing self (plan (now «test_dofs») (now «trial_dofs») (now work)) (matrixRight self (now matrix)) ⌝ }
+        ensures { λ _. ⌜ now (matrix .exit) ≡ addLocal (entryAt (local .entries) (testDim self)) (self .numbers .rows)
+            (testDofsOf self (plan (now («test_dofs» .entry)) (now («trial_dofs» .entry)) (now (work .entry))))
+            (trialDofsOf self (plan (now («test_dofs» .entry)) (now («trial_dofs» .entry)) (now (work .entry)))) (now (matrix .entry)) ⌝ }
+    {
+        let n = self.numbers;
+        let test = n.test;
+        let trial = n.trial;
+        let e = record_at(work, wide(self.position));
+        let rows = cell_dofs(test_dofs, test.dim(), wide(e.test_cell));
+        let columns = cell_dofs(trial_dofs, trial.dim(), wide(e.trial_cell));
+        let entries = local.entries;
+        add_local(
+            matrix,
+            wide(n.rows),
+            wide(n.columns),
+            rows,
+            columns,
+            &entries,
+        );
+    }
+
+    // 21, 20, 22, 23, then 9 to 11 of a touching record. `sized`: what is lent beside the plan has its length; `kind`: the run is of the call's kind.
+    pub(crate) fn touching_call_refusal(
+        self,
+        test_dofs: &[u32],
+        trial_dofs: &[u32],
+        work: &[u32],
+        sized: bool,
+        kind: bool,
+        points: usize,
+        weights: &[f64],
+        test_table: &[f64],
+        trial_table: &[f64],
+        kernel: &[f64],
+        test_geometry: &[f64],
+        trial_geometry: &[f64],
+    ) -> u32
+        ensures { λ r. ⌜ r ≡ refusal (callChecks self (plan (now («test_dofs» .entry)) (now («trial_dofs» .entry)) (now (work .entry))) sized
+            (isTouching (recordOf self (plan (now («test_dofs» .entry)) (now («trial_dofs» .entry)) (now (work .entry))) .pattern) and kind)
+            (touchingChecks (self .numbers .integrand) (testDim self) (trialDim self)
+            (touching points (now (weights .entry)) (now («test_table» .entry)) (now («trial_table» .entry)) (now (kernel .entry)) (now («test_geometry» .entry)) (now («trial_geometry» .entry))))) ⌝ }
+    {
+        let v = self.state_refusal(test_dofs, trial_dofs, work, sized);
+        if v != 0 {
+            return v;
+        }
+        let e = record_at(work, wide(self.position));
+        if !((e.pattern <= 27) & kind) {
+            return 23;
+        }
+        let n = self.numbers;
+        let f = n.integrand;
+        let test = n.test;
+        let trial = n.trial;
+        touching_refusal(
+            f,
+            test.dim(),
+            trial.dim(),
+            points,
+            weights,
+            test_table,
+            trial_table,
+            kernel,
+            test_geometry,
+            trial_geometry,
+        )
+    }
+
+    // Adds the local matrix of a touching pair.
+    pub fn add_touching(
+        self,
+        test_dofs: &[u32],
+        trial_dofs: &[u32],
+        work: &[u32],
+        points: usize,
+        weights: &[f64],
+        test_table: &[f64],
+        trial_table: &[f64],
+        kernel: &[f64],
+        test_geometry: &[f64],
+        trial_geometry: &[f64],
+        matrix: &mut [f64],
+    ) -> Added
+        ensures { λ r. ⌜ r ≡ addTouching self (plan (now («test_dofs» .entry)) (now («trial_dofs» .entry)) (now (work .entry))) (now (matrix .entry))
+            (touching points (now (weights .entry)) (now («test_table» .entry)) (now («trial_table» .entry)) (now (kernel .entry)) (now («test_geometry» .entry)) (now («trial_geometry» .entry))) ⌝ }
+        ensures { λ _. ⌜ now (matrix .exit) ≡ touchingMatrix self (plan (now («test_dofs» .entry)) (now («trial_dofs» .entry)) (now (work .entry))) (now (matrix .entry))
+            (touching points (now (weights .entry)) (now («test_table» .entry)) (now («trial_table» .entry)) (now (kernel .entry)) (now («test_geometry» .entry)) (now («trial_geometry» .entry))) ⌝ }
+    {
+        let sized = self.matrix_right(matrix);
+        let v = self.touching_call_refusal(
+            test_dofs,
+            trial_dofs,
+            work,
+            sized,
+            !self.entries,
+            points,
+            weights,
+            test_table,
+            trial_table,
+            kernel,
+            test_geometry,
+            trial_geometry,
+        );
+        if v != 0 {
+            return Added::Refused(self, v);
+        }
+        let n = self.numbers;
+        let f = n.integrand;
+        let test = n.test;
+        let trial = n.trial;
+        let local = touching_matrix(
+            f,
+            test.dim(),
+            trial.dim(),
+            points,
+            weights,
+            test_table,
+            trial_table,
+            kernel,
+            test_geometry,
+            trial_geometry,
+        );
+        self.add_matrix(test_dofs, trial_dofs, work, local, matrix);
+        Added::Accepted(self.advanced())
+    }
+
+    // 21, 20, 22, 23, then 9 to 11 of a distant record.
+    fn distant_call_refusal(
+        self,
+        test_dofs: &[u32],
+        trial_dofs: &[u32],
+        work: &[u32],
+        sized: bool,
+        test_points: usize,
+        trial_points: usize,
+        test_weights: &[f64],
+        trial_weights: &[f64],
+        test_table: &[f64],
+        trial_table: &[f64],
+        kernel: &[f64],
+        test_geometry: &[f64],
+        trial_geometry: &[f64],
+    ) -> u32
+        ensures { λ r. ⌜ r ≡ refusal (callChecks self (plan (now («test_dofs» .entry)) (now («trial_dofs» .entry)) (now (work .entry))) sized
+            (isDistant (recordOf self (plan (now («test_dofs» .entry)) (now («trial_dofs» .entry)) (now (work .entry))) .pattern) and not (self .entries))
+            (distantChecks (self .numbers .integrand) (testDim self) (trialDim self)
+            (distant «test_points» «trial_points» (now («test_weights» .entry)) (now («trial_weights» .entry)) (now («test_table» .entry)) (now («trial_table» .entry)) (now (kernel .entry)) (now («test_geometry» .entry)) (now («trial_geometry» .entry))))) ⌝ }
+    {
+        let v = self.state_refusal(test_dofs, trial_dofs, work, sized);
+        if v != 0 {
+            return v;
+        }
+        let e = record_at(work, wide(self.position));
+        if !((e.pattern == 255) & !self.entries) {
+            return 23;
+        }
+        let n = self.numbers;
+        let f = n.integrand;
+        let test = n.test;
+        let trial = n.trial;
+        distant_refusal(
+            f,
+            test.dim(),
+            trial.dim(),
+            test_points,
+            trial_points,
+            test_weights,
+            trial_weights,
+            test_table,
+            trial_table,
+            kernel,
+            test_geometry,
+            trial_geometry,
+        )
+    }
+
+    // Adds the local matrix of a distant pair.
+    pub fn add_distant(
+        self,
+        test_dofs: &[u32],
+        trial_dofs: &[u32],
+        work: &[u32],
+        test_points: usize,
+        trial_points: usize,
+        test_weights: &[f64],
+        trial_weights: &[f64],
+        test_table: &[f64],
+        trial_table: &[f64],
+        kernel: &[f64],
+        test_geometry: &[f64],
+        trial_geometry: &[f64],
+        matrix: &mut [f64],
+    ) -> Added
+        ensures { λ r. ⌜ r ≡ addDistant self (plan (now («test_dofs» .entry)) (now («trial_dofs» .entry)) (now (work .entry))) (now (matrix .entry))
+            (distant «test_points» «trial_points» (now («test_weights» .entry)) (now («trial_weights» .entry)) (now («test_table» .entry)) (now («trial_table» .entry)) (now (kernel .entry)) (now («test_geometry» .entry)) (now («trial_geometry» .entry))) ⌝ }
+        ensures { λ _. ⌜ now (matrix .exit) ≡ distantMatrix self (plan (now («test_dofs» .entry)) (now («trial_dofs» .entry)) (now (work .entry))) (now (matrix .entry))
+            (distant «test_points» «trial_points» (now («test_weights» .entry)) (now («trial_weights» .entry)) (now («test_table» .entry)) (now («trial_table» .entry)) (now (kernel .entry)) (now («test_geometry» .entry)) (now («trial_geometry» .entry))) ⌝ }
+    {
+        let sized = self.matrix_right(matrix);
+        let v = self.distant_call_refusal(
+            test_dofs,
+            trial_dofs,
+            work,
+            sized,
+            test_points,
+            trial_points,
+            test_weights,
+            trial_weights,
+            test_table,
+            trial_table,
+            kernel,
+            test_geometry,
+            trial_geometry,
+        );
+        if v != 0 {
+            return Added::Refused(self, v);
+        }
+        let n = self.numbers;
+        let f = n.integrand;
+        let test = n.test;
+        let trial = n.trial;
+        let local = distant_matrix(
+            f,
+            test.dim(),
+            trial.dim(),
+            test_points,
+            trial_points,
+            test_weights,
+            trial_weights,
+            test_table,
+            trial_table,
+            kernel,
+            test_geometry,
+            trial_geometry,
+        );
+        self.add_matrix(test_dofs, trial_dofs, work, local, matrix);
+        Added::Accepted(self.advanced())
+    }
+}
