@@ -6,7 +6,7 @@ use mathlib.Core.Bool.{true, false, not, _&&_}
 use mathlib.Core.Path.{_≡_, refl, sym, _∙_}
 use mathlib.Core.List.{List}
 use lib.ListN.{length, replicate, length-replicate, getD-replicate}
-use lib.Dec.{leb}
+use lib.Dec.{leb, eqb}
 use lib.Ieee.{Float, nan}
 use borrow.Author.Tests.{eqb-true, leb-true, not-false}
 use Rattle.lists.specs.Bool.{_and_, and-left, and-right}
@@ -19,7 +19,7 @@ use Rattle.integrands.specs.Floats.{0·0, _⊕_, _⊗_, _!_}
 use Rattle.integrands.specs.Terms.{kindOf, kernelWidth, tableRows}
 use Rattle.integrands.specs.ValueFacts.{plainKind, plain-first}
 use Rattle.integrands.specs.Values.{geometryAt, pointValue}
-use Rattle.integrands.specs.Columns.{Held, Table, rows-some, width-some, hundred-place, first-reads}
+use Rattle.integrands.specs.Columns.{Added, Held, Table, rows-some, width-some, hundred-place, first-reads}
 use Rattle.cell_pair_assemblers.specs.declared.LocalMatrix.{LocalMatrix}
 use Rattle.cell_pair_assemblers.specs.Lent.{Touching, Distant, touchingCount, touchingLengths, touchingChecks, distantCounts, distantLengths, distantChecks}
 use Rattle.cell_pair_assemblers.specs.Entries.{rowsAt, touchingValue, touchingSummand, touchingEntry, distantValue, distantSummand, distantEntry}
@@ -298,3 +298,14 @@ plain-reads f kind at kernel e h lent =
     let first : kind ≡ kindOf (f .first) = e ∙ plain-first f (λ q. h (e ∙ q)) in
     let reads = first-reads f {kernel = kernel} lent in
     (reads .first, λ q. reads .double (sym first ∙ q), λ q. reads .adjoint (sym first ∙ q))
+
+-- three basis functions on either side
+pub both-three : (a b : ℕ) → (eqb a 3 && eqb b 3) ≡ true → (a ≡ 3) × (b ≡ 3)
+unfolding _and_
+both-three a b e = (eqb-true a 3 (and-left (eqb a 3) (eqb b 3) e), eqb-true b 3 (and-right (eqb a 3) (eqb b 3) e))
+
+pub added-three : {m n : ℕ} {xs ys : List Float} {u : ℕ → ℕ → Float} → m ≡ 3 → n ≡ 3 → Added 3 3 xs ys u → Added m n xs ys u
+added-three em en h = rw (em, en) h
+
+pub table-three : {D P p m : ℕ} {table : List Float} → m ≡ 3 → Table D P p m table → Table D P p 3 table
+table-three e h = rw e at h

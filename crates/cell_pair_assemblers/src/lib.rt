@@ -549,6 +549,31 @@ fn add_outer(
     }
 }
 
+// As `add_outer`, for three basis functions on either side: the compiler knows the bounds.
+fn add_outer_3(
+    entries: &mut [f64; 100],
+    c: f64,
+    w: f64,
+    rows: usize,
+    test_table: &[f64],
+    test_points: usize,
+    p: usize,
+    trial_table: &[f64],
+    trial_points: usize,
+    q: usize,
+)
+    requires { ⌜ (length (now entries) ≡ 100) × Table rows «test_points» p 3 (now «test_table») × Table rows «trial_points» q 3 (now «trial_table») ⌝ }
+    ensures { λ _. ⌜ Added 3 3 (now (entries .entry)) (now (entries .exit)) (λ (i j : ℕ).
+        c ⊗ tableRow (now («test_table» .entry)) rows «test_points» p i 0 ⊗ tableRow (now («trial_table» .entry)) rows «trial_points» q j 0 ⊗ w) ⌝ }
+{
+    let mut scaled = [0.0; 10];
+    integrands::scaled_rows(&mut scaled, c, test_table, rows, test_points, p, 3);
+    for j in 0..3 {
+        let r = integrands::table_value(trial_table, rows, trial_points, q, j, 0);
+        add_column(entries, 3, j, &scaled, r, w);
+    }
+}
+
 // As `touching_point`.
 fn touching_plain_point(
     entries: &mut [f64; 100],
@@ -575,21 +600,36 @@ fn touching_plain_point(
     let test = integrands::geometry_at(test_geometry, q);
     let trial = integrands::geometry_at(trial_geometry, q);
     let c = integrands::coefficient(kind, kernel, width * q, test, trial);
-    let w = weights[q] * (test.jdet * trial.jdet);
-    add_outer(
-        entries,
-        c,
-        w,
-        rows,
-        test_table,
-        points,
-        q,
-        test_dim,
-        trial_table,
-        points,
-        q,
-        trial_dim,
-    );
+    let weight = weights[q] * (test.jdet * trial.jdet);
+    if (test_dim == 3) & (trial_dim == 3) {
+        add_outer_3(
+            entries,
+            c,
+            weight,
+            rows,
+            test_table,
+            points,
+            q,
+            trial_table,
+            points,
+            q,
+        );
+    } else {
+        add_outer(
+            entries,
+            c,
+            weight,
+            rows,
+            test_table,
+            points,
+            q,
+            test_dim,
+            trial_table,
+            points,
+            q,
+            trial_dim,
+        );
+    }
 }
 
 fn touching_plain(
@@ -683,6 +723,32 @@ fn add_outer_twice(
     }
 }
 
+// As `add_outer_twice`, for three basis functions on either side: the compiler knows the bounds.
+fn add_outer_twice_3(
+    entries: &mut [f64; 100],
+    c: f64,
+    w: f64,
+    v: f64,
+    rows: usize,
+    test_table: &[f64],
+    test_points: usize,
+    p: usize,
+    trial_table: &[f64],
+    trial_points: usize,
+    q: usize,
+)
+    requires { ⌜ (length (now entries) ≡ 100) × Table rows «test_points» p 3 (now «test_table») × Table rows «trial_points» q 3 (now «trial_table») ⌝ }
+    ensures { λ _. ⌜ Added 3 3 (now (entries .entry)) (now (entries .exit)) (λ (i j : ℕ).
+        c ⊗ tableRow (now («test_table» .entry)) rows «test_points» p i 0 ⊗ tableRow (now («trial_table» .entry)) rows «trial_points» q j 0 ⊗ w ⊗ v) ⌝ }
+{
+    let mut scaled = [0.0; 10];
+    integrands::scaled_rows(&mut scaled, c, test_table, rows, test_points, p, 3);
+    for j in 0..3 {
+        let r = integrands::table_value(trial_table, rows, trial_points, q, j, 0);
+        add_column_twice(entries, 3, j, &scaled, r, w, v);
+    }
+}
+
 // As `distant_point`.
 fn distant_plain_point(
     entries: &mut [f64; 100],
@@ -715,21 +781,37 @@ fn distant_plain_point(
     let trial = integrands::geometry_at(trial_geometry, r);
     let c = integrands::coefficient(kind, kernel, width * (t + test_points * r), test, trial);
     let w = trial_weights[r] * trial.jdet;
-    add_outer_twice(
-        entries,
-        c,
-        w,
-        v,
-        rows,
-        test_table,
-        test_points,
-        t,
-        test_dim,
-        trial_table,
-        trial_points,
-        r,
-        trial_dim,
-    );
+    if (test_dim == 3) & (trial_dim == 3) {
+        add_outer_twice_3(
+            entries,
+            c,
+            w,
+            v,
+            rows,
+            test_table,
+            test_points,
+            t,
+            trial_table,
+            trial_points,
+            r,
+        );
+    } else {
+        add_outer_twice(
+            entries,
+            c,
+            w,
+            v,
+            rows,
+            test_table,
+            test_points,
+            t,
+            test_dim,
+            trial_table,
+            trial_points,
+            r,
+            trial_dim,
+        );
+    }
 }
 
 // As `distant_row`.

@@ -1,5 +1,6 @@
 -- Tests over numbers (`Bool`, `Bounded`), comprehensions (`Range`), sums and counts (`Total`), folds (`Fold`), a list written into a list (`Stores`,
 -- `Writes`), places in flat lists (`Places`), refusals (`Refusals`), examples (`Examples`), items sorted by their keys (`Buckets`).
+-- `Writes`), places in flat lists (`Places`), a list mapped in place (`Maps`), refusals (`Refusals`), examples (`Examples`).
 pub mod Bool
 pub mod Bounded
 pub mod Range
