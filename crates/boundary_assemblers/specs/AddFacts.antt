@@ -68,6 +68,7 @@ module _ (r : Run) (l : Plan) (sized kind : Bool) (numbers : List Check) where
   -- nothing turns the call down
   pub record AllPass : Type 0 where
     pub state : refusal (stateChecks r l sized) ≡ 0
+    pub right : kind ≡ true
     pub rest : refusal numbers ≡ 0
 
   pub all-pass : refusal (callChecks r l sized kind numbers) ≡ 0 → AllPass
@@ -78,6 +79,7 @@ module _ (r : Run) (l : Plan) (sized kind : Bool) (numbers : List Check) where
       let c₄ = refusal-zero 22 _ _ (c₃ .1) in
       record {
         state = refusal-passes 21 _ _ (c₁ .0) ∙ refusal-passes 20 _ _ (c₂ .0) ∙ refusal-passes 22 _ _ (c₃ .0) ∙ refusal-none;
+        right = c₄ .0;
         rest = c₄ .1;
       }
 
@@ -93,14 +95,14 @@ module _ (r : Run) (l : Plan) (sized run : Bool) (numbers : List Check) (P : ℕ
 
 -- ---- the two ways an add ends
 
-pub add-refused : (r : Run) (M new : List Float) (v n : ℕ) → v ≡ n → (v ≡ 0 → ⊥) → (AddRefused r v ≡ addAnswer n r) × (M ≡ unlessRefused n new M)
-add-refused r M new v n e h = rw (← e) (go v h)
+pub add-refused : {A : Type 0} (r : Run) (M new : A) (v n : ℕ) → v ≡ n → (v ≡ 0 → ⊥) → (AddRefused r v ≡ addAnswer n r) × (M ≡ unlessRefused n new M)
+add-refused {A} r M new v n e h = rw (← e) (go v h)
   where
     go : (v : ℕ) → (v ≡ 0 → ⊥) → (AddRefused r v ≡ addAnswer v r) × (M ≡ unlessRefused v new M)
     go zero h = absurd (h refl)
     go (suc v) h = (refl, refl)
 
-pub add-accepted : (r run : Run) (M M′ new : List Float) (n : ℕ) → n ≡ 0 → run ≡ advance r → M′ ≡ new → (Accepted run ≡ addAnswer n r) × (M′ ≡ unlessRefused n new M)
+pub add-accepted : {A : Type 0} (r run : Run) (M M′ new : A) (n : ℕ) → n ≡ 0 → run ≡ advance r → M′ ≡ new → (Accepted run ≡ addAnswer n r) × (M′ ≡ unlessRefused n new M)
 add-accepted r run M M′ new n e a w = rw (e, a, w) (refl, refl)
 
 -- the sum of the entries that the local matrix holds is that of the local entries

@@ -4,6 +4,7 @@ pub mod Runs
 pub mod Accepted
 pub mod RunFacts
 pub mod AddFacts
+pub mod EntryFacts
 pub mod Machine
 pub mod Calls
 pub mod Whole

@@ -2,12 +2,13 @@
 use Prim.Native.Nat.{ℕ, zero, suc, _+_, _*_, _≤_, _<_}
 use native.Mathlib.Nat.{mul-le-mul, mul-comm, mul-le-mul-left}
 use native.Mathlib.Omega.{arith}
-use mathlib.Core.Path.{_≡_, refl}
+use mathlib.Core.Path.{_≡_, refl, sym, _∙_}
 use mathlib.Core.Bool.{Bool, true, false}
 use mathlib.Core.List.{List}
 use lib.ListN.{length}
 use borrow.Author.Tests.{leb-true, eqb-true, eqb-false, ltb-true, eq-eqb, ne-eqb, not-true}
-use Rattle.lists.specs.Bool.{_and_, and-left, and-right}
+use mathlib.Core.Logic.{⊎-elim}
+use Rattle.lists.specs.Bool.{_and_, and-left, and-right, or-cases, true≢false}
 use Rattle.lists.specs.Refusals.{refusal, unless, refusal-zero}
 use Rattle.grid.specs.Mesh.{allBelow}
 use Rattle.grid.specs.Facts.{within-low, within-high}
@@ -63,6 +64,8 @@ pub record Places (r : Run) : Type 0 where
   pub distant : r .numbers .distant ≤ pairs (r .numbers)
   pub rows : r .numbers .rows ≤ r .numbers .cells * testDim r
   pub columns : r .numbers .columns ≤ r .numbers .cells * trialDim r
+  -- an entries run has p from N on
+  pub from : r .entries ≡ true → r .numbers .distant ≤ r .position
 
 pub places : (r : Run) → placesRight r ≡ true → Places r
 unfolding placesRight
@@ -73,6 +76,7 @@ places r h =
       distant = leb-true _ _ (and-right _ _ (and-left _ _ (and-left _ _ before)));
       rows = leb-true _ _ (and-right _ _ before);
       columns = leb-true _ _ (and-right _ _ h);
+      from = λ e. ⊎-elim (λ n. absurd (true≢false (sym e ∙ not-true _ n))) (λ l. leb-true _ _ l) (or-cases _ _ (and-right _ _ (and-left _ _ before)));
     }
 
 -- 21: the plan's lengths

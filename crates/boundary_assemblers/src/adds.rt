@@ -39,7 +39,7 @@ impl Run {
     }
 
     // The run at the next record.
-    fn advanced(self) -> Run
+    pub(crate) fn advanced(self) -> Run
         requires { ⌜ self .position < 4194304 ⌝ }
         ensures { λ r. ⌜ r ≡ advance self ⌝ }
     {

@@ -64,7 +64,7 @@ pub fn cell_dofs(dofs: &[u32], dim: usize, cell: usize) -> &[u32]
 
 impl Run {
     // 21: the run's numbers are in their ranges.
-    fn ranges_right(self) -> bool
+    pub(crate) fn ranges_right(self) -> bool
         ensures { λ r. ⌜ r ≡ rangesRight self ⌝ }
     {
         let n = self.numbers;
@@ -79,7 +79,7 @@ impl Run {
     }
 
     // 21: p, N, rows and columns are no more than the ranges give.
-    fn places_right(self) -> bool
+    pub(crate) fn places_right(self) -> bool
         requires { ⌜ rangesRight self ≡ true ⌝ }
         ensures { λ r. ⌜ r ≡ placesRight self ⌝ }
     {

@@ -1,6 +1,7 @@
 // Planning, and the run.
 mod adds;
 mod calls;
+mod entries;
 
 use function::Element;
 use integrands::Integrand;

@@ -1,0 +1,136 @@
+// The entries call: the local matrix of a touching pair goes into three lists.
+use crate::Added;
+use crate::Run;
+use crate::calls::cell_dofs;
+use crate::calls::record_at;
+use cell_pair_assemblers::LocalMatrix;
+use cell_pair_assemblers::touching_matrix;
+use grid::wide;
+use local_matrix::write_columns;
+use local_matrix::write_rows;
+use local_matrix::write_values;
+ghost use mathlib.Core.Path.{_≡_};
+ghost use Prim.Native.Nat.{_≤_};
+ghost use Rattle.lists.specs.Bool.{_and_};
+ghost use Rattle.cell_pair_assemblers.specs.Facts.{touching};
+ghost use Rattle.local_matrix.specs.Entries.{entryAt};
+ghost use Rattle.boundary_assemblers.specs.Runs.{testDim, trialDim, rangesRight, placesRight, entriesRight, addEntries, entriesWritten};
+ghost use Rattle.boundary_assemblers.specs.RunFacts.{plan, Standing};
+ghost use Rattle.boundary_assemblers.specs.EntryFacts.{entryLists, written};
+
+impl Run {
+    // 21: the run's numbers are right, and the entry lists have their length.
+    fn entries_right(self, rows: &[u32], columns: &[u32], values: &[f64]) -> bool
+        ensures { λ r. ⌜ r ≡ (rangesRight self and placesRight self and entriesRight self (entryLists (now (rows .entry)) (now (columns .entry)) (now (values .entry)))) ⌝ }
+    {
+        if !self.ranges_right() {
+            return false;
+        }
+        if !self.places_right() {
+            return false;
+        }
+        let n = self.numbers;
+        let test = n.test;
+        let trial = n.trial;
+        let cells = wide(n.cells);
+        let pairs = cells * cells;
+        let count = (pairs - wide(n.distant)) * test.dim() * trial.dim();
+        (rows.len() == count) & (columns.len() == count) & (values.len() == count)
+    }
+
+    // Writes a local matrix as the entries of record p.
+    fn write_entries(
+        self,
+        test_dofs: &[u32],
+        trial_dofs: &[u32],
+        work: &[u32],
+        local: LocalMatrix,
+        rows: &mut [u32],
+        columns: &mut [u32],
+        values: &mut [f64],
+    )
+        requires { ⌜ Standing self (plan (now «test_dofs») (now «trial_dofs») (now work))
+            (rangesRight self and placesRight self and entriesRight self (entryLists (now rows) (now columns) (now values))) ⌝ }
+        requires { ⌜ self .numbers .distant ≤ self .position ⌝ }
+        ensures { λ _. ⌜ entryLists (now (rows .exit)) (now (columns .exit)) (now (values .exit))
+            ≡ written self (plan (now («test_dofs» .entry)) (now («trial_dofs» .entry)) (now (work .entry)))
+            (entryAt (local .entries) (testDim self)) (entryLists (now (rows .entry)) (now (columns .entry)) (now (values .entry))) ⌝ }
+    {
+        let n = self.numbers;
+        let test = n.test;
+        let trial = n.trial;
+        let test_dim = test.dim();
+        let trial_dim = trial.dim();
+        let e = record_at(work, wide(self.position));
+        let row_dofs = cell_dofs(test_dofs, test_dim, wide(e.test_cell));
+        let column_dofs = cell_dofs(trial_dofs, trial_dim, wide(e.trial_cell));
+        let at = (wide(self.position) - wide(n.distant)) * test_dim * trial_dim;
+        write_rows(rows, at, row_dofs, column_dofs);
+        write_columns(columns, at, row_dofs, column_dofs);
+        let entries = local.entries;
+        write_values(values, at, test_dim, trial_dim, &entries);
+    }
+
+    // Writes row, column and value of each entry of a touching pair into three lists.
+    pub fn add_entries(
+        self,
+        test_dofs: &[u32],
+        trial_dofs: &[u32],
+        work: &[u32],
+        points: usize,
+        weights: &[f64],
+        test_table: &[f64],
+        trial_table: &[f64],
+        kernel: &[f64],
+        test_geometry: &[f64],
+        trial_geometry: &[f64],
+        rows: &mut [u32],
+        columns: &mut [u32],
+        values: &mut [f64],
+    ) -> Added
+        ensures { λ r. ⌜ r ≡ addEntries self (plan (now («test_dofs» .entry)) (now («trial_dofs» .entry)) (now (work .entry)))
+            (entryLists (now (rows .entry)) (now (columns .entry)) (now (values .entry)))
+            (touching points (now (weights .entry)) (now («test_table» .entry)) (now («trial_table» .entry)) (now (kernel .entry)) (now («test_geometry» .entry)) (now («trial_geometry» .entry))) ⌝ }
+        ensures { λ _. ⌜ entryLists (now (rows .exit)) (now (columns .exit)) (now (values .exit))
+            ≡ entriesWritten self (plan (now («test_dofs» .entry)) (now («trial_dofs» .entry)) (now (work .entry)))
+            (entryLists (now (rows .entry)) (now (columns .entry)) (now (values .entry)))
+            (touching points (now (weights .entry)) (now («test_table» .entry)) (now («trial_table» .entry)) (now (kernel .entry)) (now («test_geometry» .entry)) (now («trial_geometry» .entry))) ⌝ }
+    {
+        let sized = self.entries_right(rows, columns, values);
+        let v = self.touching_call_refusal(
+            test_dofs,
+            trial_dofs,
+            work,
+            sized,
+            self.entries,
+            points,
+            weights,
+            test_table,
+            trial_table,
+            kernel,
+            test_geometry,
+            trial_geometry,
+        );
+        if v != 0 {
+            return Added::Refused(self, v);
+        }
+        let n = self.numbers;
+        let f = n.integrand;
+        let test = n.test;
+        let trial = n.trial;
+        let local = touching_matrix(
+            f,
+            test.dim(),
+            trial.dim(),
+            points,
+            weights,
+            test_table,
+            trial_table,
+            kernel,
+            test_geometry,
+            trial_geometry,
+        );
+        self.write_entries(test_dofs, trial_dofs, work, local, rows, columns, values);
+        Added::Accepted(self.advanced())
+    }
+}
