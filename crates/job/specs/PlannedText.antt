@@ -1,0 +1,39 @@
+-- The text of what planning answers. Assumes nothing.
+use Prim.Native.Nat.{ℕ, zero, suc, _≤_}
+use mathlib.Core.Path.{_≡_}
+use mathlib.Core.List.{List, flatMap}
+use lib.ListN.{length, take}
+use Rattle.integrands.specs.declared.Integrand.{Integrand}
+use Rattle.integrands.specs.declared.Term.the-variants.{Bare}
+use Rattle.boundary_assemblers.specs.Planning.{Planning, Lists, listsFor, planRefusal, workRecords}
+use Rattle.job.specs.Text.{lineOf, refusedLine}
+
+-- one bare term of kind 0
+abbrev pub bareZero : Integrand
+bareZero = record { terms = 1; first = Bare 0; second = Bare 0 }
+
+abbrev pub answerText : ℕ → Planning → List ℕ
+answerText zero x = flatMap lineOf (workRecords x)
+answerText (suc n) x = refusedLine (suc n)
+
+unfoldable pub plannedText : Planning → Lists → List ℕ
+plannedText x l = answerText (planRefusal x l) x
+
+-- with lists of the right lengths
+abbrev pub rightText : Planning → List ℕ
+rightText x = plannedText x (listsFor x)
+
+-- arrays that are long enough for the lists of 64 cells
+pub record Arrays (testDofs trialDofs testColours trialColours testOwners trialOwners work : List ℕ) : Type 0 where
+  pub test-dofs : 640 ≤ length testDofs
+  pub trial-dofs : 640 ≤ length trialDofs
+  pub test-colours : 64 ≤ length testColours
+  pub trial-colours : 64 ≤ length trialColours
+  pub test-owners : 1920 ≤ length testOwners
+  pub trial-owners : 1920 ≤ length trialOwners
+  pub works : 12288 ≤ length work
+
+-- the text is the first r bytes of the array of 49,152
+pub record Printed (array : List ℕ) (r : ℕ) (text : List ℕ) : Type 0 where
+  pub first : take r array ≡ text
+  pub within : r ≤ 49152

@@ -1,0 +1,52 @@
+-- `plan_runs::attempt::print_all` meets its contract: the index stays within the list. Assumes nothing.
+use mathlib.Core.Path.{_≡_, refl}
+use Prim.Native.Nat.{_-_, _≤_}
+use lib.ListN.{length}
+use borrow.Author.Needs.{needs}
+use Rattle.plan_runs.proofs.attempt.print_all.Statement.{statement}
+use Rattle.plan_runs.proofs.attempt.print_all.Tie as tie
+
+abbrev Inv-loop : tie.InvT-loop
+Inv-loop list i₀ i-end i = (i-end ≡ length list) × (i ≤ length list)
+
+abbrev μ-loop : tie.MeasureT-loop
+μ-loop list i₀ i-end i = length list - i
+
+loop-holds : tie.Need-loop-holds Inv-loop μ-loop
+loop-holds c = (refl, search needs)
+
+mul-print-after-blank : tie.Need-mul-print-after-blank Inv-loop μ-loop
+mul-print-after-blank c = search needs
+
+shared-slice-read-print-after-blank : tie.Need-shared-slice-read-print-after-blank Inv-loop μ-loop
+shared-slice-read-print-after-blank c = search needs
+
+print-after-blank-requires : tie.Need-print-after-blank-requires Inv-loop μ-loop
+print-after-blank-requires c κs = search needs
+
+add-i : tie.Need-add-i Inv-loop μ-loop
+add-i c = search needs
+
+loop-less : tie.Need-loop-less Inv-loop μ-loop
+loop-less c = search needs
+
+loop-again : tie.Need-loop-again Inv-loop μ-loop
+loop-again c = (refl, search needs)
+
+returns : tie.Need-returns Inv-loop μ-loop
+returns c = search needs
+
+pub print-all-spec : {M : Type 1} → statement M
+print-all-spec =
+    tie.close
+    (tie.spec
+    Inv-loop
+    μ-loop
+    loop-holds
+    mul-print-after-blank
+    shared-slice-read-print-after-blank
+    print-after-blank-requires
+    add-i
+    loop-less
+    loop-again
+    returns)

@@ -1,0 +1,18 @@
+-- `worklist::print` is safe. Assumes nothing.
+use mathlib.Core.Path.{sym}
+use lib.Seq.{length-take-le}
+use borrow.Author.Needs.{needs}
+use Rattle.worklist.proofs.print.Statement.{statement}
+use Rattle.worklist.proofs.print.Tie as tie
+
+slice-aggregate-write-all : tie.Need-slice-aggregate-write-all
+slice-aggregate-write-all c = let s = c .before .before in sym (length-take-le (s .args .n) (s .args .text .now) (s .pre))
+
+write-all-requires : tie.Need-write-all-requires
+write-all-requires c κs = search needs
+
+returns : tie.Need-returns
+returns c = search needs
+
+pub print-spec : {M : Type 1} → statement M
+print-spec = tie.close (tie.spec slice-aggregate-write-all write-all-requires returns)
