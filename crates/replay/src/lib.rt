@@ -1,0 +1,308 @@
+// Plays a whole list of calls on one run, begun from planning. The calls are encoded as numbers, and their lent lists are parts of one pool.
+use boundary_assemblers::Added;
+use boundary_assemblers::Looked;
+use boundary_assemblers::Planned;
+use boundary_assemblers::Run;
+use function::Element;
+use integrands::Integrand;
+use planning::plan;
+ghost use mathlib.Core.Path.{_≡_};
+ghost use mathlib.Core.List.{[], _∷_};
+ghost use Prim.Native.Nat.{_+_, _*_, _≤_, _<_};
+ghost use lib.ListN.{length};
+ghost use lib.Seq.{sets};
+ghost use Rattle.boundary_assemblers.specs.Planning.{planLists};
+ghost use Rattle.boundary_assemblers.specs.Runs.{addDistant, distantMatrix, addTouching, touchingMatrix, lookedAnswer, lookedRun, addedAnswer, addedRun};
+ghost use Rattle.boundary_assemblers.specs.RunFacts.{plan};
+ghost use Rattle.planning.specs.Arguments.{meshOf, planningOf, listsOf};
+ghost use Rattle.replay.specs.Encoding.{partOf, listIn, distantIn, touchingIn, callOf, callsOf, callCount, answerNumbers};
+ghost use Rattle.replay.specs.Replay.{replayed, replayedMatrix, replayedAnswers};
+ghost use Rattle.replay.specs.Laws.{Stepped, Going};
+
+// What replay hands back: the run after the last call, or planning's refusal.
+pub enum Replayed {
+    Played(Run),
+    Refused(u32),
+}
+
+// Numbers a to e of the pool, or none where those are not there.
+fn part_of(pool: &[f64], a: usize, e: usize) -> &[f64]
+    ensures { λ r. ⌜ now r ≡ partOf (now (pool .entry)) a e ⌝ }
+{
+    if a <= e {
+        if e <= pool.len() {
+            return &pool[a..e];
+        }
+    }
+    &pool[..0]
+}
+
+// List j of a call.
+fn list_in<'a>(pool: &'a [f64], call: &[usize], j: usize) -> &'a [f64]
+    requires { ⌜ (length (now call) ≡ 11) × (j < 7) ⌝ }
+    ensures { λ r. ⌜ now r ≡ listIn (now (pool .entry)) (now (call .entry)) j ⌝ }
+{
+    part_of(pool, call[j + 3], call[j + 4])
+}
+
+// The add of a distant pair that the call's numbers encode.
+fn play_distant(
+    run: Run,
+    test_dofs: &[u32],
+    trial_dofs: &[u32],
+    work: &[u32],
+    call: &[usize],
+    pool: &[f64],
+    matrix: &mut [f64],
+) -> Added
+    requires { ⌜ length (now call) ≡ 11 ⌝ }
+    ensures { λ r. ⌜ r ≡ addDistant run (plan (now («test_dofs» .entry)) (now («trial_dofs» .entry)) (now (work .entry))) (now (matrix .entry)) (distantIn (now (pool .entry)) (now (call .entry))) ⌝ }
+    ensures { λ _. ⌜ now (matrix .exit) ≡ distantMatrix run (plan (now («test_dofs» .entry)) (now («trial_dofs» .entry)) (now (work .entry))) (now (matrix .entry)) (distantIn (now (pool .entry)) (now (call .entry))) ⌝ }
+{
+    run.add_distant(
+        test_dofs,
+        trial_dofs,
+        work,
+        call[1],
+        call[2],
+        list_in(pool, call, 0),
+        list_in(pool, call, 1),
+        list_in(pool, call, 2),
+        list_in(pool, call, 3),
+        list_in(pool, call, 4),
+        list_in(pool, call, 5),
+        list_in(pool, call, 6),
+        matrix,
+    )
+}
+
+// The add of a touching pair that the call's numbers encode.
+fn play_touching(
+    run: Run,
+    test_dofs: &[u32],
+    trial_dofs: &[u32],
+    work: &[u32],
+    call: &[usize],
+    pool: &[f64],
+    matrix: &mut [f64],
+) -> Added
+    requires { ⌜ length (now call) ≡ 11 ⌝ }
+    ensures { λ r. ⌜ r ≡ addTouching run (plan (now («test_dofs» .entry)) (now («trial_dofs» .entry)) (now (work .entry))) (now (matrix .entry)) (touchingIn (now (pool .entry)) (now (call .entry))) ⌝ }
+    ensures { λ _. ⌜ now (matrix .exit) ≡ touchingMatrix run (plan (now («test_dofs» .entry)) (now («trial_dofs» .entry)) (now (work .entry))) (now (matrix .entry)) (touchingIn (now (pool .entry)) (now (call .entry))) ⌝ }
+{
+    run.add_touching(
+        test_dofs,
+        trial_dofs,
+        work,
+        call[1],
+        list_in(pool, call, 0),
+        list_in(pool, call, 1),
+        list_in(pool, call, 2),
+        list_in(pool, call, 3),
+        list_in(pool, call, 4),
+        list_in(pool, call, 5),
+        matrix,
+    )
+}
+
+// Stores four numbers.
+fn put_four(answers: &mut [u32], at: usize, a: u32, b: u32, c: u32, d: u32)
+    requires { ⌜ at + 4 ≤ length (now answers) ⌝ }
+    ensures { λ _. ⌜ now (answers .exit) ≡ sets (now (answers .entry)) at (a ∷ b ∷ c ∷ d ∷ []) ⌝ }
+{
+    answers[at] = a;
+    answers[at + 1] = b;
+    answers[at + 2] = c;
+    answers[at + 3] = d;
+}
+
+// Stores what look answers, and gives the run back.
+fn put_looked(looked: Looked, answers: &mut [u32], at: usize) -> Run
+    requires { ⌜ at + 4 ≤ length (now answers) ⌝ }
+    ensures { λ r. ⌜ r ≡ lookedRun looked ⌝ }
+    ensures { λ _. ⌜ now (answers .exit) ≡ sets (now (answers .entry)) at (answerNumbers (lookedAnswer looked)) ⌝ }
+{
+    match looked {
+        Looked::Found(r, e) => {
+            put_four(answers, at, 0, e.pattern, e.test_cell, e.trial_cell);
+            r
+        }
+        Looked::Refused(r, n) => {
+            put_four(answers, at, 2, n, 0, 0);
+            r
+        }
+    }
+}
+
+// Stores what an add answers, and gives the run back.
+fn put_added(added: Added, answers: &mut [u32], at: usize) -> Run
+    requires { ⌜ at + 4 ≤ length (now answers) ⌝ }
+    ensures { λ r. ⌜ r ≡ addedRun added ⌝ }
+    ensures { λ _. ⌜ now (answers .exit) ≡ sets (now (answers .entry)) at (answerNumbers (addedAnswer added)) ⌝ }
+{
+    match added {
+        Added::Accepted(r) => {
+            put_four(answers, at, 1, 0, 0, 0);
+            r
+        }
+        Added::Refused(r, n) => {
+            put_four(answers, at, 2, n, 0, 0);
+            r
+        }
+    }
+}
+
+// Plays one call, and stores its answer from place `at` on.
+fn play_call(
+    run: Run,
+    test_dofs: &[u32],
+    trial_dofs: &[u32],
+    work: &[u32],
+    call: &[usize],
+    pool: &[f64],
+    matrix: &mut [f64],
+    answers: &mut [u32],
+    at: usize,
+) -> Run
+    requires { ⌜ (length (now call) ≡ 11) × (at + 4 ≤ length (now answers)) ⌝ }
+    ensures { λ r. ⌜ Stepped (plan (now («test_dofs» .entry)) (now («trial_dofs» .entry)) (now (work .entry))) (callOf (now (pool .entry)) (now (call .entry)))
+        run (now (matrix .entry)) (now (answers .entry)) at r (now (matrix .exit)) (now (answers .exit)) ⌝ }
+{
+    if call[0] == 0 {
+        return put_looked(run.look(test_dofs, trial_dofs, work), answers, at);
+    }
+    if call[0] == 1 {
+        return put_added(
+            play_distant(run, test_dofs, trial_dofs, work, call, pool, matrix),
+            answers,
+            at,
+        );
+    }
+    put_added(
+        play_touching(run, test_dofs, trial_dofs, work, call, pool, matrix),
+        answers,
+        at,
+    )
+}
+
+// Plays the first n calls, the first one first.
+fn play_calls(
+    run: Run,
+    test_dofs: &[u32],
+    trial_dofs: &[u32],
+    work: &[u32],
+    calls: &[usize],
+    pool: &[f64],
+    n: usize,
+    matrix: &mut [f64],
+    answers: &mut [u32],
+) -> Run
+    requires { ⌜ (11 * n ≤ length (now calls)) × (4 * n ≤ length (now answers)) ⌝ }
+    ensures { λ r. ⌜ Going (plan (now («test_dofs» .entry)) (now («trial_dofs» .entry)) (now (work .entry))) (callsOf (now (calls .entry)) (now (pool .entry)) n)
+        run (now (matrix .entry)) (now (answers .entry)) r (now (matrix .exit)) (now (answers .exit)) ⌝ }
+{
+    let mut r = run;
+    for k in 0..n {
+        let start = 11 * k;
+        let end = start + 11;
+        let call = &calls[start..end];
+        r = play_call(
+            r,
+            test_dofs,
+            trial_dofs,
+            work,
+            call,
+            pool,
+            matrix,
+            answers,
+            4 * k,
+        );
+    }
+    r
+}
+
+// How many calls are played.
+fn call_count(calls: &[usize], answers: &[u32]) -> usize
+    ensures { λ r. ⌜ r ≡ callCount (now (calls .entry)) (now (answers .entry)) ⌝ }
+{
+    let whole = calls.len() / 11;
+    let room = answers.len() / 4;
+    if whole <= room {
+        return whole;
+    }
+    room
+}
+
+// Plans, begins a dense run and plays the calls on it, as many as there is room to answer; plays nothing where planning refuses.
+pub fn replay(
+    cells: u32,
+    vertices: u32,
+    edges: u32,
+    cell_vertices: &[u32],
+    cell_edges: &[u32],
+    test: Element,
+    trial: Element,
+    batch: u32,
+    integrand: Integrand,
+    test_dofs: &mut [u32],
+    trial_dofs: &mut [u32],
+    test_colours: &mut [u32],
+    trial_colours: &mut [u32],
+    test_owners: &mut [u32],
+    trial_owners: &mut [u32],
+    work: &mut [u32],
+    calls: &[usize],
+    pool: &[f64],
+    matrix: &mut [f64],
+    answers: &mut [u32],
+) -> Replayed
+    ensures { λ r. ⌜ r ≡ replayed (planningOf (meshOf cells vertices edges (now («cell_vertices» .entry)) (now («cell_edges» .entry))) test trial batch integrand)
+        (listsOf (now («test_dofs» .entry)) (now («trial_dofs» .entry)) (now («test_colours» .entry)) (now («trial_colours» .entry)) (now («test_owners» .entry)) (now («trial_owners» .entry)) (now (work .entry)))
+        (callsOf (now (calls .entry)) (now (pool .entry)) (callCount (now (calls .entry)) (now (answers .entry)))) (now (matrix .entry)) ⌝ }
+    ensures { λ _. ⌜ now (matrix .exit) ≡ replayedMatrix (planningOf (meshOf cells vertices edges (now («cell_vertices» .entry)) (now («cell_edges» .entry))) test trial batch integrand)
+        (listsOf (now («test_dofs» .entry)) (now («trial_dofs» .entry)) (now («test_colours» .entry)) (now («trial_colours» .entry)) (now («test_owners» .entry)) (now («trial_owners» .entry)) (now (work .entry)))
+        (callsOf (now (calls .entry)) (now (pool .entry)) (callCount (now (calls .entry)) (now (answers .entry)))) (now (matrix .entry)) ⌝ }
+    ensures { λ _. ⌜ now (answers .exit) ≡ replayedAnswers (planningOf (meshOf cells vertices edges (now («cell_vertices» .entry)) (now («cell_edges» .entry))) test trial batch integrand)
+        (listsOf (now («test_dofs» .entry)) (now («trial_dofs» .entry)) (now («test_colours» .entry)) (now («trial_colours» .entry)) (now («test_owners» .entry)) (now («trial_owners» .entry)) (now (work .entry)))
+        (callsOf (now (calls .entry)) (now (pool .entry)) (callCount (now (calls .entry)) (now (answers .entry)))) (now (matrix .entry)) (now (answers .entry)) ⌝ }
+    ensures { λ _. ⌜ listsOf (now («test_dofs» .exit)) (now («trial_dofs» .exit)) (now («test_colours» .exit)) (now («trial_colours» .exit)) (now («test_owners» .exit)) (now («trial_owners» .exit)) (now (work .exit))
+        ≡ planLists (planningOf (meshOf cells vertices edges (now («cell_vertices» .entry)) (now («cell_edges» .entry))) test trial batch integrand)
+        (listsOf (now («test_dofs» .entry)) (now («trial_dofs» .entry)) (now («test_colours» .entry)) (now («trial_colours» .entry)) (now («test_owners» .entry)) (now («trial_owners» .entry)) (now (work .entry))) ⌝ }
+{
+    let planned = plan(
+        cells,
+        vertices,
+        edges,
+        cell_vertices,
+        cell_edges,
+        test,
+        trial,
+        batch,
+        integrand,
+        test_dofs,
+        trial_dofs,
+        test_colours,
+        trial_colours,
+        test_owners,
+        trial_owners,
+        work,
+    );
+    match planned {
+        Planned::Refused(v) => Replayed::Refused(v),
+        Planned::Ready(numbers) => {
+            let n = call_count(calls, answers);
+            let run = play_calls(
+                numbers.begin(),
+                test_dofs,
+                trial_dofs,
+                work,
+                calls,
+                pool,
+                n,
+                matrix,
+                answers,
+            );
+            Replayed::Played(run)
+        }
+    }
+}
