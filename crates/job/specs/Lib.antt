@@ -1,5 +1,5 @@
--- The job format with checks 12 and 13 (`Job`), what `worklist` prints (`Text`, `Lines`), what the code of both rests on (`JobFacts`, `TextFacts`), and the
--- examples (`Examples`).
+-- The job format with checks 12 and 13 (`Job`), what `worklist` prints (`Text`), the same for lists of numbers, for a planning and by the first 7 bytes
+-- (`Lines`, `PlannedText`, `Head`), what the code rests on (`JobFacts`, `TextFacts`, `WorklistFacts`, `HeadFacts`), and the examples (`Examples`).
 pub mod Job
 pub mod JobFacts
 pub mod Text
