@@ -1,9 +1,9 @@
--- `worklist::print` is safe. Assumes nothing.
+-- `worklist_io::print` is safe. Assumes nothing.
 use mathlib.Core.Path.{sym}
 use lib.Seq.{length-take-le}
 use borrow.Author.Needs.{needs}
-use Rattle.worklist.proofs.print.Statement.{statement}
-use Rattle.worklist.proofs.print.Tie as tie
+use Rattle.worklist_io.proofs.print.Statement.{statement}
+use Rattle.worklist_io.proofs.print.Tie as tie
 
 slice-aggregate-write-all : tie.Need-slice-aggregate-write-all
 slice-aggregate-write-all c = let s = c .before .before in sym (length-take-le (s .args .n) (s .args .text .now) (s .pre))

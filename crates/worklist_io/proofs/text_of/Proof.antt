@@ -1,9 +1,9 @@
--- `worklist::text_of` meets its contract. Assumes nothing.
+-- `worklist_io::text_of` meets its contract. Assumes nothing.
 use mathlib.Core.Path.{sym}
 use lib.Seq.{length-take-le}
 use borrow.Author.Needs.{needs}
-use Rattle.worklist.proofs.text_of.Statement.{statement}
-use Rattle.worklist.proofs.text_of.Tie as tie
+use Rattle.worklist_io.proofs.text_of.Statement.{statement}
+use Rattle.worklist_io.proofs.text_of.Tie as tie
 
 slice-aggregate-worklist-text : tie.Need-slice-aggregate-worklist-text
 slice-aggregate-worklist-text c = let s = c .before .before in sym (length-take-le (s .args .n) (s .args .bytes .now) (s .pre))

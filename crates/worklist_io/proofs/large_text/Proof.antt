@@ -1,11 +1,11 @@
--- `worklist::large_text` meets its contract: 12 and 13 have few digits. Assumes nothing.
+-- `worklist_io::large_text` meets its contract: 12 and 13 have few digits. Assumes nothing.
 use Prim.Native.Nat.{_+_, _*_, _<_}
 use lib.Dec.{eqb}
 use native.Mathlib.Omega.{arith}
 use mathlib.Core.Bool.{Bool, true, false, cond}
 use borrow.Author.Needs.{needs}
-use Rattle.worklist.proofs.large_text.Statement.{statement}
-use Rattle.worklist.proofs.large_text.Tie as tie
+use Rattle.worklist_io.proofs.large_text.Statement.{statement}
+use Rattle.worklist_io.proofs.large_text.Tie as tie
 
 mul-skip : tie.Need-mul-skip
 mul-skip c = search needs

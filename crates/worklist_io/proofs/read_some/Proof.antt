@@ -1,10 +1,10 @@
--- `worklist::read_some` meets its contract. Assumes nothing.
+-- `worklist_io::read_some` meets its contract. Assumes nothing.
 use mathlib.Core.Path.{sym}
 use native.Mathlib.Omega.{arith}
 use lib.Seq.{length-take-le}
 use borrow.Author.Needs.{needs}
-use Rattle.worklist.proofs.read_some.Statement.{statement}
-use Rattle.worklist.proofs.read_some.Tie as tie
+use Rattle.worklist_io.proofs.read_some.Statement.{statement}
+use Rattle.worklist_io.proofs.read_some.Tie as tie
 
 least-requires : tie.Need-least-requires
 least-requires c κs = search needs

@@ -1,10 +1,10 @@
--- `worklist::skip` meets its contract. The invariant of its loop: no more bytes came than asked. Assumes nothing.
+-- `worklist_io::skip` meets its contract. The invariant of its loop: no more bytes came than asked. Assumes nothing.
 use Prim.Native.Nat.{_≤_, _-_}
 use mathlib.Core.Path.{_≡_}
 use lib.ListN.{length}
 use borrow.Author.Needs.{needs}
-use Rattle.worklist.proofs.skip.Statement.{statement}
-use Rattle.worklist.proofs.skip.Tie as tie
+use Rattle.worklist_io.proofs.skip.Statement.{statement}
+use Rattle.worklist_io.proofs.skip.Tie as tie
 
 abbrev Inv-loop : tie.InvT-loop
 Inv-loop piece₀ n count₀ piece count = (count ≤ n) × (length piece ≡ length piece₀)
