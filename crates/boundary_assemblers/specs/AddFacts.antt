@@ -23,7 +23,7 @@ use Rattle.boundary_assemblers.specs.RunFacts.{Standing, cell-fits}
 
 -- ---- the DOFs of the two cells
 
-length-cell-is : (dofs : List ℕ) (d i : ℕ) → d * i + d ≤ length dofs → length (cellDofs dofs d i) ≡ d
+pub length-cell-is : (dofs : List ℕ) (d i : ℕ) → d * i + d ≤ length dofs → length (cellDofs dofs d i) ≡ d
 unfolding cellDofs
 length-cell-is dofs d i h = length-take d (drop (d * i) dofs) ∙ omega (arith, length-drop (d * i) dofs)
 

@@ -10,4 +10,8 @@ pub mod Calls
 pub mod Whole
 pub mod PlanRight
 pub mod Reading
+pub mod EntriesMachine
+pub mod EntriesCalls
+pub mod EntriesWhole
+pub mod EntriesReading
 pub mod Examples

@@ -14,7 +14,7 @@ use Rattle.function.specs.Numbering.{dofList, dofCount}
 use Rattle.integrands.specs.declared.Integrand.{Integrand}
 use Rattle.cell_pair_assemblers.specs.Lent.{Touching, Distant, touchingChecks, distantChecks}
 use Rattle.cell_pair_assemblers.specs.Entries.{touchingEntry, distantEntry}
-use Rattle.cell_pairs.specs.WorkList.{Rec, rec}
+use Rattle.cell_pairs.specs.WorkList.{Rec, rec, distantPairs}
 use Rattle.boundary_assemblers.specs.Planning.{Planning, testSpace, trialSpace, workRecords, unlessRefused}
 use Rattle.local_matrix.specs.Adding.{addLocal}
 use Rattle.boundary_assemblers.specs.Runs.{cellDofs, Answer, found, accepted, refused}
@@ -23,6 +23,8 @@ pub record Machine : Type 0 where
   -- the records in work order, and how many there are: C·C
   pub work : List Rec
   pub pairs : ℕ
+  -- how many of them are distant: N
+  pub distant : ℕ
   -- a pair whose cells share a vertex is touching, any other distant
   pub touches : ℕ → ℕ → Bool
   -- the DOF numbers of a cell, for the test and for the trial element
@@ -42,6 +44,7 @@ machineOf x =
     record {
       work = workRecords x;
       pairs = C * C;
+      distant = distantPairs (x .mesh);
       touches = share (x .mesh .cellVertices);
       testDofs = cellDofs (dofList (testSpace x) C) (dim (x .test));
       trialDofs = cellDofs (dofList (trialSpace x) C) (dim (x .trial));

@@ -4,12 +4,12 @@ use Prim.Native.Nat.{ℕ, _+_, _*_, _≤_, _<_}
 use native.Mathlib.Nat.{mul-comm, mul-le-mul-left}
 use native.Mathlib.Omega.{arith}
 use mathlib.Core.Path.{_≡_, refl, sym, ap, _∙_}
-use mathlib.Core.Bool.{true, false, not}
+use mathlib.Core.Bool.{Bool, true, false, not}
 use mathlib.Core.Logic.{⊎-elim}
 use mathlib.Core.List.{List}
 use lib.ListN.{length, getD, drop, length-take}
 use lib.Seq.{getD-take, getD-drop}
-use lib.Dec.{ltb}
+use lib.Dec.{leb, ltb}
 use lib.Ieee.{Float}
 use borrow.Author.Tests.{leb-true, le-leb, lt-leb, lt-ltb, eq-eqb, ne-eqb}
 use Rattle.lists.specs.Bool.{_or_, and-both, and-left, or-left, or-right}
@@ -29,7 +29,7 @@ use Rattle.boundary_assemblers.specs.Accepted.{Accepted, accepted}
 use Rattle.boundary_assemblers.specs.Runs.{begin, recordAt, cellDofs, isTouching, isDistant, rangesRight, placesRight, planRight, recordKnown, recordRight}
 use Rattle.boundary_assemblers.specs.Machine.{machineOf, machineRun, Call}
 use Rattle.boundary_assemblers.specs.Calls.{callAll}
-use Rattle.boundary_assemblers.specs.Whole.{Right, whole, embed, planOf, runAt, pairCount, recordNo, touches}
+use Rattle.boundary_assemblers.specs.Whole.{Right, whole, embed, planOf, runOf, pairCount, recordNo, touches}
 
 -- ---- what a pattern says
 
@@ -71,9 +71,9 @@ module _ (x : Planning) (l : Lists) (ok : Accepted x l)
   C = x .mesh .cells
 
   -- 21: the run's numbers
-  ranges-right : (p : ℕ) → rangesRight (runAt x p) ≡ true
-  unfolding rangesRight runAt planNumbers cellsRight verticesRight edgesRight
-  ranges-right p =
+  ranges-right : (entries : Bool) (p : ℕ) → rangesRight (runOf x entries p) ≡ true
+  unfolding rangesRight runOf planNumbers cellsRight verticesRight edgesRight
+  ranges-right entries p =
       and-both _ _ (and-both _ _ (and-both _ _ (and-both _ _
       (and-left _ _ (ok .cells))
       (and-left _ _ (and-left _ _ (ok .vertices))))
@@ -81,21 +81,26 @@ module _ (x : Planning) (l : Lists) (ok : Accepted x l)
       (ok .dims))
       (ok .integrand)
 
-  places-right : (p : ℕ) → p ≤ pairCount x → placesRight (runAt x p) ≡ true
-  unfolding placesRight runAt planNumbers
-  places-right p h =
+  places-right : (entries : Bool) (p : ℕ) → p ≤ pairCount x → (entries ≡ true → distantPairs (x .mesh) ≤ p) → placesRight (runOf x entries p) ≡ true
+  unfolding placesRight runOf planNumbers
+  places-right entries p h from =
       let most : distantPairs (x .mesh) ≤ pairCount x = omega (arith, split (x .mesh)) in
       and-both _ _ (and-both _ _ (and-both _ _ (and-both _ _
       (le-leb _ _ h)
       (le-leb _ _ most))
-      (or-left _ _ refl))
+      (kind-right entries from))
       (le-leb _ _ (dof-count-le (testSpace x) C)))
       (le-leb _ _ (dof-count-le (trialSpace x) C))
+    where
+      -- an entries run has p from N on
+      kind-right : (b : Bool) → (b ≡ true → distantPairs (x .mesh) ≤ p) → not b or leb (distantPairs (x .mesh)) p ≡ true
+      kind-right false f = or-left _ _ refl
+      kind-right true f = or-right _ _ (le-leb _ _ (f refl))
 
   -- 21: the plan's lengths
-  plan-right : (p : ℕ) → planRight (runAt x p) (planOf x) ≡ true
-  unfolding planRight runAt planNumbers planOf
-  plan-right p =
+  plan-right : (entries : Bool) (p : ℕ) → planRight (runOf x entries p) (planOf x) ≡ true
+  unfolding planRight runOf planNumbers planOf
+  plan-right entries p =
       let all-pairs : length (flat (workRecords x)) ≡ 3 * pairCount x = length-flat (workRecords x) ∙ ap (λ (n : ℕ). 3 * n) (length-work (x .mesh) (x .batch) _ _ counts) in
       and-both _ _ (and-both _ _ (eq-eqb _ _ (dof-list-length (testSpace x) C)) (eq-eqb _ _ (dof-list-length (trialSpace x) C))) (eq-eqb _ _ all-pairs)
 
@@ -149,9 +154,9 @@ module _ (x : Planning) (l : Lists) (ok : Accepted x l)
     trial-dofs h = rw trial-is (cell-below (trialSpace x) C (recordNo x p .trial) h)
 
     -- 22
-    record-right : recordRight (runAt x p) (planOf x) ≡ true
-    unfolding recordRight recordKnown runAt planNumbers
-    record-right =
+    record-right : (entries : Bool) → recordRight (runOf x entries p) (planOf x) ≡ true
+    unfolding recordRight recordKnown runOf planNumbers
+    record-right entries =
         let cells = records-right (x .mesh) (x .batch) _ _ counts p below in
         and-both _ _ (and-both _ _ (and-both _ _ (and-both _ _
         pattern-right
@@ -167,7 +172,7 @@ module _ (x : Planning) (l : Lists) (ok : Accepted x l)
         ranges = ranges-right;
         places = places-right;
         plan = plan-right;
-        record-right = record-right;
+        record-right = λ entries p below. record-right p below entries;
         pattern-is = pattern-is;
         test-is = test-is;
         trial-is = trial-is;

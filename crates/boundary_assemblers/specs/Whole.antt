@@ -9,12 +9,12 @@ use lib.ListN.{getD}
 use lib.Dec.{eqb}
 use lib.Ieee.{Float}
 use borrow.Author.Tests.{eqb-false, not-true}
-use Rattle.lists.specs.Bool.{_and_}
+use Rattle.lists.specs.Bool.{_and_, true≢false}
 use Rattle.lists.specs.Fold.{over-agree}
 use Rattle.lists.specs.Refusals.{Check, check, refusal, unless, refusal-zero}
 use Rattle.grid.specs.Cells.{share}
 use Rattle.function.specs.Numbering.{dofList}
-use Rattle.cell_pairs.specs.WorkList.{Rec, rec, flat}
+use Rattle.cell_pairs.specs.WorkList.{Rec, rec, flat, distantPairs}
 use Rattle.cell_pair_assemblers.specs.Lent.{Touching, Distant}
 use Rattle.boundary_assemblers.specs.declared.Run.{Run}
 use Rattle.boundary_assemblers.specs.declared.WorkRecord.{WorkRecord}
@@ -29,9 +29,12 @@ planOf x =
     let C = x .mesh .cells in
     record { testDofs = dofList (testSpace x) C; trialDofs = dofList (trialSpace x) C; work = flat (workRecords x) }
 
--- the dense run at position p
-unfoldable pub runAt : Planning → ℕ → Run
-runAt x p = record { numbers = planNumbers x; entries = false; position = p }
+-- the run at position p: of entries, or dense
+unfoldable pub runOf : Planning → Bool → ℕ → Run
+runOf x entries p = record { numbers = planNumbers x; entries = entries; position = p }
+
+abbrev pub runAt : Planning → ℕ → Run
+runAt x p = runOf x false p
 
 -- C·C
 abbrev pub pairCount : Planning → ℕ
@@ -46,10 +49,10 @@ touches x p = share (x .mesh .cellVertices) (recordNo x p .test) (recordNo x p .
 
 -- What planning ensures: the run's checks pass, the record at p is record p, and its pattern says whether its cells share a vertex
 pub record Right (x : Planning) : Type 0 where
-  pub ranges : (p : ℕ) → rangesRight (runAt x p) ≡ true
-  pub places : (p : ℕ) → p ≤ pairCount x → placesRight (runAt x p) ≡ true
-  pub plan : (p : ℕ) → planRight (runAt x p) (planOf x) ≡ true
-  pub record-right : (p : ℕ) → p < pairCount x → recordRight (runAt x p) (planOf x) ≡ true
+  pub ranges : (entries : Bool) (p : ℕ) → rangesRight (runOf x entries p) ≡ true
+  pub places : (entries : Bool) (p : ℕ) → p ≤ pairCount x → (entries ≡ true → distantPairs (x .mesh) ≤ p) → placesRight (runOf x entries p) ≡ true
+  pub plan : (entries : Bool) (p : ℕ) → planRight (runOf x entries p) (planOf x) ≡ true
+  pub record-right : (entries : Bool) (p : ℕ) → p < pairCount x → recordRight (runOf x entries p) (planOf x) ≡ true
   pub pattern-is : (p : ℕ) → p < pairCount x → recordAt (planOf x .work) p .pattern ≡ recordNo x p .pattern
   pub test-is : (p : ℕ) → p < pairCount x → recordAt (planOf x .work) p .«test_cell» ≡ recordNo x p .test
   pub trial-is : (p : ℕ) → p < pairCount x → recordAt (planOf x .work) p .«trial_cell» ≡ recordNo x p .trial
@@ -61,26 +64,26 @@ abbrev pub embed : Planning → State → Progress
 embed x s = record { run = runAt x (s .position); matrix = s .matrix; answers = s .answers }
 
 -- what is written only where nothing is turned down
-unless-same : {A : Type 0} (n : ℕ) (a b c : A) → (n ≡ 0 → a ≡ b) → unlessRefused n a c ≡ unlessRefused n b c
+pub unless-same : {A : Type 0} (n : ℕ) (a b c : A) → (n ≡ 0 → a ≡ b) → unlessRefused n a c ≡ unlessRefused n b c
 unless-same zero a b c h = h refl
 unless-same (suc n) a b c h = refl
 
-and-true : (b : Bool) → b and true ≡ b
+pub and-true : (b : Bool) → b and true ≡ b
 unfolding _and_
 and-true true = refl
 and-true false = refl
 
 -- what an answer hands back, by the refusal's number
-look-run : (n : ℕ) (r : Run) (e : WorkRecord) → lookedRun (lookAnswer n r e) ≡ r
+pub look-run : (n : ℕ) (r : Run) (e : WorkRecord) → lookedRun (lookAnswer n r e) ≡ r
 look-run zero r e = refl
 look-run (suc n) r e = refl
 
-add-run : (x : Planning) (n p : ℕ) → addedRun (addAnswer n (runAt x p)) ≡ runAt x (unlessRefused n (p + 1) p)
-unfolding advance runAt
-add-run x zero p = refl
-add-run x (suc n) p = refl
+pub add-run : (x : Planning) (entries : Bool) (n p : ℕ) → addedRun (addAnswer n (runOf x entries p)) ≡ runOf x entries (unlessRefused n (p + 1) p)
+unfolding advance runOf
+add-run x entries zero p = refl
+add-run x entries (suc n) p = refl
 
-kept : {A : Type 0} (n : ℕ) (a : A) → unlessRefused n a a ≡ a
+pub kept : {A : Type 0} (n : ℕ) (a : A) → unlessRefused n a a ≡ a
 kept zero a = refl
 kept (suc n) a = refl
 
@@ -98,9 +101,15 @@ touching-answer m zero s r a = refl
 touching-answer m (suc n) s r a = refl
 
 -- p grows by 1 only below the number of pairs
-grown : {n : ℕ} (v p : ℕ) → p ≤ n → (v ≡ 0 → p < n) → unlessRefused v (p + 1) p ≤ n
+pub grown : {n : ℕ} (v p : ℕ) → p ≤ n → (v ≡ 0 → p < n) → unlessRefused v (p + 1) p ≤ n
 grown zero p h below = omega (arith, below refl)
 grown (suc v) p h below = h
+
+-- where 20 passes there is a pair left
+pub still-below : (p n : ℕ) → p ≤ n → not (eqb p n) ≡ true → p < n
+still-below p n h left =
+    let other : p ≡ n → ⊥ = eqb-false p n (not-true (eqb p n) left) in
+    omega arith
 
 -- progress is equal part by part
 progress-is : {r r′ : Run} {M M′ : List Float} {A A′ : List Answer} → r ≡ r′ → M ≡ M′ → A ≡ A′
@@ -108,67 +117,75 @@ progress-is : {r r′ : Run} {M M′ : List Float} {A A′ : List Answer} → r 
 progress-is e f g = rw (e, f, g)
 
 module _ (x : Planning) (right : Right x) where
-  -- the four checks before 9 to 11 come to the machine's three
-  same-checks : (p : ℕ) (sized kind kind′ : Bool) (numbers : List Check) → p ≤ pairCount x → (p < pairCount x → kind ≡ kind′)
-      → refusal (callChecks (runAt x p) (planOf x) sized kind numbers) ≡ refusal (check 21 sized ∷ check 20 (not (eqb p (pairCount x))) ∷ check 23 kind′ ∷ numbers)
-  unfolding refusal unless pairLeft runAt planNumbers _and_
-  same-checks p sized kind kind′ numbers h k = rw (right .ranges p, right .places p h, right .plan p) (go sized (eqb p (pairCount x)) refl)
+  -- the four checks before 9 to 11 come to the machine's three, at each position that the run may have
+  pub same-checks : (entries : Bool) (p : ℕ) (sized kind kind′ : Bool) (numbers : List Check) → p ≤ pairCount x → (entries ≡ true → distantPairs (x .mesh) ≤ p)
+      → (p < pairCount x → kind ≡ kind′)
+      → refusal (callChecks (runOf x entries p) (planOf x) sized kind numbers) ≡ refusal (check 21 sized ∷ check 20 (not (eqb p (pairCount x))) ∷ check 23 kind′ ∷ numbers)
+  unfolding refusal unless pairLeft runOf planNumbers _and_
+  same-checks entries p sized kind kind′ numbers h from k =
+      rw (right .ranges entries p, right .places entries p h from, right .plan entries p) (go sized (eqb p (pairCount x)) refl)
     where
       go : (s e : Bool) → eqb p (pairCount x) ≡ e
-          → unless s 21 (unless (not e) 20 (unless (recordRight (runAt x p) (planOf x)) 22 (unless kind 23 (refusal numbers))))
+          → unless s 21 (unless (not e) 20 (unless (recordRight (runOf x entries p) (planOf x)) 22 (unless kind 23 (refusal numbers))))
           ≡ unless s 21 (unless (not e) 20 (unless kind′ 23 (refusal numbers)))
       go false e q = refl
       go true true q = refl
       go true false q =
           let other : p ≡ pairCount x → ⊥ = eqb-false p (pairCount x) q in
           let below : p < pairCount x = omega arith in
-          rw (right .record-right p below, k below)
+          rw (right .record-right entries p below, k below)
 
   -- look's checks
-  look-same : (p : ℕ) → p ≤ pairCount x → lookRefusal (runAt x p) (planOf x) ≡ refusal (check 20 (not (eqb p (pairCount x))) ∷ [])
-  unfolding lookRefusal refusal unless pairLeft runAt planNumbers _and_
-  look-same p h = rw (right .ranges p, right .places p h, right .plan p) (go (eqb p (pairCount x)) refl)
+  pub look-same : (entries : Bool) (p : ℕ) → p ≤ pairCount x → (entries ≡ true → distantPairs (x .mesh) ≤ p)
+      → lookRefusal (runOf x entries p) (planOf x) ≡ refusal (check 20 (not (eqb p (pairCount x))) ∷ [])
+  unfolding lookRefusal refusal unless pairLeft runOf planNumbers _and_
+  look-same entries p h from =
+      rw (right .ranges entries p, right .places entries p h from, right .plan entries p) (go (eqb p (pairCount x)) refl)
     where
       go : (e : Bool) → eqb p (pairCount x) ≡ e
-          → unless (not e) 20 (unless (recordRight (runAt x p) (planOf x)) 22 0) ≡ unless (not e) 20 0
+          → unless (not e) 20 (unless (recordRight (runOf x entries p) (planOf x)) 22 0) ≡ unless (not e) 20 0
       go true q = refl
       go false q =
           let other : p ≡ pairCount x → ⊥ = eqb-false p (pairCount x) q in
           let below : p < pairCount x = omega arith in
-          rw (right .record-right p below)
+          rw (right .record-right entries p below)
+
+  -- what look finds
+  pub look-finds : (p : ℕ) → p < pairCount x
+      → rec (recordAt (planOf x .work) p .pattern) (recordAt (planOf x .work) p .«test_cell») (recordAt (planOf x .work) p .«trial_cell») ≡ recordNo x p
+  look-finds p below = rw (right .pattern-is p below, right .test-is p below, right .trial-is p below)
 
   module _ (s : State) (h : s .position ≤ pairCount x) where
     abbrev p : ℕ
     p = s .position
 
+    dense : false ≡ true → distantPairs (x .mesh) ≤ p
+    dense e = absurd (true≢false (sym e))
+
     distant-same : (a : Distant) → distantRefusal (runAt x p) (planOf x) (s .matrix) a ≡ machineRefusal (machineOf x) s (addsDistant a)
-    unfolding distantRefusal machineRefusal machineOf matrixRight runAt planNumbers
+    unfolding distantRefusal machineRefusal machineOf matrixRight runOf planNumbers
     distant-same a =
-        same-checks p _ _ _ _ h (λ below. and-true _ ∙ ap isDistant (right .pattern-is p below) ∙ right .distant p below)
+        same-checks false p _ _ _ _ h dense (λ below. and-true _ ∙ ap isDistant (right .pattern-is p below) ∙ right .distant p below)
 
     touching-same : (a : Touching) → touchingRefusal (runAt x p) (planOf x) (s .matrix) a ≡ machineRefusal (machineOf x) s (addsTouching a)
-    unfolding touchingRefusal machineRefusal machineOf matrixRight runAt planNumbers
+    unfolding touchingRefusal machineRefusal machineOf matrixRight runOf planNumbers
     touching-same a =
-        same-checks p _ _ _ _ h (λ below. and-true _ ∙ ap isTouching (right .pattern-is p below) ∙ right .touching p below)
+        same-checks false p _ _ _ _ h dense (λ below. and-true _ ∙ ap isTouching (right .pattern-is p below) ∙ right .touching p below)
 
     -- an accepted call that is an add is at a pair
     distant-below : (a : Distant) → machineRefusal (machineOf x) s (addsDistant a) ≡ 0 → p < pairCount x
     unfolding machineRefusal machineOf
     distant-below a e =
-        let left : not (eqb p (pairCount x)) ≡ true = refusal-zero 19 _ _ (refusal-zero 20 _ _ e .1) .0 in
-        let other : p ≡ pairCount x → ⊥ = eqb-false p (pairCount x) (not-true (eqb p (pairCount x)) left) in
-        omega arith
+        still-below p (pairCount x) h (refusal-zero 19 _ _ (refusal-zero 20 _ _ e .1) .0)
 
     touching-below : (a : Touching) → machineRefusal (machineOf x) s (addsTouching a) ≡ 0 → p < pairCount x
     unfolding machineRefusal machineOf
     touching-below a e =
-        let left : not (eqb p (pairCount x)) ≡ true = refusal-zero 19 _ _ (refusal-zero 20 _ _ e .1) .0 in
-        let other : p ≡ pairCount x → ⊥ = eqb-false p (pairCount x) (not-true (eqb p (pairCount x)) left) in
-        omega arith
+        still-below p (pairCount x) h (refusal-zero 19 _ _ (refusal-zero 20 _ _ e .1) .0)
 
     distant-sum : (a : Distant) → distantMatrix (runAt x p) (planOf x) (s .matrix) a
         ≡ unlessRefused (machineRefusal (machineOf x) s (addsDistant a)) (machineSum (machineOf x) s (addsDistant a)) (s .matrix)
-    unfolding distantMatrix machineSum machineOf runAt planNumbers planOf
+    unfolding distantMatrix machineSum machineOf runOf planNumbers planOf
     distant-sum a =
         rw (distant-same a)
         (unless-same (machineRefusal (machineOf x) s (addsDistant a)) _ _ _
@@ -176,7 +193,7 @@ module _ (x : Planning) (right : Right x) where
 
     touching-sum : (a : Touching) → touchingMatrix (runAt x p) (planOf x) (s .matrix) a
         ≡ unlessRefused (machineRefusal (machineOf x) s (addsTouching a)) (machineSum (machineOf x) s (addsTouching a)) (s .matrix)
-    unfolding touchingMatrix machineSum machineOf runAt planNumbers planOf
+    unfolding touchingMatrix machineSum machineOf runOf planNumbers planOf
     touching-sum a =
         rw (touching-same a)
         (unless-same (machineRefusal (machineOf x) s (addsTouching a)) _ _ _
@@ -184,18 +201,16 @@ module _ (x : Planning) (right : Right x) where
 
     look-number : lookRefusal (runAt x p) (planOf x) ≡ machineRefusal (machineOf x) s looks
     unfolding machineRefusal machineOf
-    look-number = look-same p h
+    look-number = look-same false p h dense
 
     look-below : machineRefusal (machineOf x) s looks ≡ 0 → p < pairCount x
     unfolding machineRefusal machineOf
     look-below e =
-        let left : not (eqb p (pairCount x)) ≡ true = refusal-zero 19 _ _ e .0 in
-        let other : p ≡ pairCount x → ⊥ = eqb-false p (pairCount x) (not-true (eqb p (pairCount x)) left) in
-        omega arith
+        still-below p (pairCount x) h (refusal-zero 19 _ _ e .0)
 
     look-at : p < pairCount x → rec (recordAt (planOf x .work) p .pattern) (recordAt (planOf x .work) p .«test_cell») (recordAt (planOf x .work) p .«trial_cell») ≡ recordIn (machineOf x) s
     unfolding machineOf
-    look-at below = rw (right .pattern-is p below, right .test-is p below, right .trial-is p below)
+    look-at below = look-finds p below
 
   -- a look leaves the matrix
   look-sum : (s : State) → s .matrix ≡ unlessRefused (machineRefusal (machineOf x) s looks) (machineSum (machineOf x) s looks) (s .matrix)
@@ -204,7 +219,7 @@ module _ (x : Planning) (right : Right x) where
 
   -- one call
   step-agrees : (c : Call) (s : State) → s .position ≤ pairCount x → call (planOf x) c (embed x s) ≡ embed x (machineStep (machineOf x) c s)
-  unfolding call machineStep runAfter answerOf matrixAfter look addDistant addTouching runAt
+  unfolding call machineStep runAfter answerOf matrixAfter look addDistant addTouching runOf
   step-agrees looks s h =
       progress-is
       (look-run (lookRefusal (runAt x (s .position)) (planOf x)) (runAt x (s .position)) (recordAt (planOf x .work) (s .position)) ∙ ap (runAt x) (sym (kept (machineRefusal (machineOf x) s looks) (s .position))))
@@ -213,12 +228,12 @@ module _ (x : Planning) (right : Right x) where
       (rw (look-number s h) (look-answer (machineOf x) (machineRefusal (machineOf x) s looks) s (runAt x (s .position)) (recordAt (planOf x .work) (s .position)) (λ e. look-at s h (look-below s h e)))))
   step-agrees (addsDistant a) s h =
       progress-is
-      (rw (distant-same s h a) (add-run x (machineRefusal (machineOf x) s (addsDistant a)) (s .position)))
+      (rw (distant-same s h a) (add-run x false (machineRefusal (machineOf x) s (addsDistant a)) (s .position)))
       (distant-sum s h a)
       (ap (λ (b : Answer). s .answers ++ (b ∷ [])) (rw (distant-same s h a) (distant-answer (machineOf x) (machineRefusal (machineOf x) s (addsDistant a)) s (runAt x (s .position)) a)))
   step-agrees (addsTouching a) s h =
       progress-is
-      (rw (touching-same s h a) (add-run x (machineRefusal (machineOf x) s (addsTouching a)) (s .position)))
+      (rw (touching-same s h a) (add-run x false (machineRefusal (machineOf x) s (addsTouching a)) (s .position)))
       (touching-sum s h a)
       (ap (λ (b : Answer). s .answers ++ (b ∷ [])) (rw (touching-same s h a) (touching-answer (machineOf x) (machineRefusal (machineOf x) s (addsTouching a)) s (runAt x (s .position)) a)))
 
@@ -232,7 +247,7 @@ module _ (x : Planning) (right : Right x) where
   -- The third property: on any list of calls, from a fresh dense run on the plan of planning, on any matrix, every answer, the position and every number of
   -- the matrix are the machine's
   pub whole : (calls : List Call) (M : List Float) → callAll (planOf x) calls (begin (planNumbers x)) M ≡ embed x (machineRun (machineOf x) calls M)
-  unfolding callAll machineRun begin runAt
+  unfolding callAll machineRun begin runOf
   whole calls M =
       over-agree (λ (q : Progress) (s : State). (q ≡ embed x s) × (s .position ≤ pairCount x)) (call (planOf x)) (machineStep (machineOf x))
       (λ c q s e. (ap (call (planOf x) c) (e .0) ∙ step-agrees c s (e .1), step-below c s (e .1)))
