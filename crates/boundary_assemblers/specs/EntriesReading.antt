@@ -1,7 +1,7 @@
 -- What an entries run leaves: with k accepted entries calls in a list of calls the position is N + k, and the three lists hold, from their front on, row, column
 -- and value of the local entries of the first k touching records in work order; what stands behind them is as it was. Assumes nothing.
 use Prim.Native.Nat.{ℕ, zero, suc, _+_, _-_, _*_, _≤_, _<_}
-use native.Mathlib.Nat.{add-zero, zero-add, zero-mul, add-mul, mul-assoc, one-mul}
+use native.Mathlib.Nat.{zero-mul, add-mul, mul-assoc, one-mul}
 use native.Mathlib.Omega.{arith}
 use mathlib.Core.Path.{_≡_, refl, sym, ap, ap₂, _∙_}
 use mathlib.Core.List.{List, [], _∷_, _++_, flatMap, append-nil, append-assoc}
@@ -28,7 +28,7 @@ use Rattle.boundary_assemblers.specs.Machine.{Machine, machineOf}
 use Rattle.boundary_assemblers.specs.EntriesMachine.{EntriesCall, looks, writes, EntriesState, recordIn, testDofsIn, trialDofsIn, entriesRefusal, entriesWritten, entriesStep, fresh, entriesRun}
 use Rattle.boundary_assemblers.specs.Whole.{Right, pairCount, kept}
 use Rattle.boundary_assemblers.specs.PlanRight.{right, counted}
-use Rattle.boundary_assemblers.specs.EntriesWhole.{Between, write-below, step-between, fresh-between}
+use Rattle.boundary_assemblers.specs.EntriesWhole.{Between, write-below, fresh-between}
 
 module _ (m : Machine) where
   -- row and column of the local entries of a record, trial basis outer

@@ -1,6 +1,6 @@
 -- A whole entries run: on any list of looks and entries calls, on the plan of a mesh, begun from planning's numbers, the program's answers, position and three
 -- lists are those of the machine of the mesh. Assumes nothing.
-use Prim.Native.Nat.{ℕ, zero, suc, _+_, _*_, _≤_, _<_}
+use Prim.Native.Nat.{ℕ, zero, suc, _+_, _≤_, _<_}
 use native.Mathlib.Omega.{arith}
 use mathlib.Core.Path.{_≡_, refl, sym, ap, _∙_}
 use mathlib.Core.Bool.{true}
