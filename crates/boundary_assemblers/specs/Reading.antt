@@ -11,15 +11,16 @@ use lib.ListN.{length, getD, length-append, length-set}
 use lib.Seq.{getD-set-same, getD-set-other}
 use lib.Dec.{eqb}
 use lib.Ieee.{Float, nan}
-use borrow.Author.Tests.{eqb-true, eqb-false}
+use borrow.Author.Tests.{eqb-true, eqb-false, eq-eqb, ne-eqb}
 use Rattle.lists.specs.Range.{range, when, flatMap-range, flatMap-none}
 use Rattle.lists.specs.Fold.{upto, over, upto-keeps}
+use Rattle.lists.specs.Refusals.{refusal, unless}
 use Rattle.integrands.specs.Floats.{_⊕_}
 use Rattle.cell_pair_assemblers.specs.Entries.{touchingEntry, distantEntry}
 use Rattle.cell_pairs.specs.WorkList.{rec}
 use Rattle.boundary_assemblers.specs.Planning.{unlessRefused}
 use Rattle.local_matrix.specs.Adding.{addAt, addLocal}
-use Rattle.boundary_assemblers.specs.Runs.{}
+use Rattle.boundary_assemblers.specs.Runs.{found, refused}
 use Rattle.boundary_assemblers.specs.Machine.{Machine, Call, looks, addsDistant, addsTouching, State, machineRefusal, machineSum, machineStep, machineRun}
 
 -- ---- one place of the matrix
@@ -224,3 +225,12 @@ module _ (m : Machine) where
   pub reading : (calls : List Call) (M : List Float) (e : ℕ) → e < length M
       → getD (machineRun m calls M .matrix) e nan ≡ plusAll (entriesFrom 0 (acceptedAdds calls (fresh M)) e) (getD M e nan)
   reading calls M e h = rw (accepted-matrix calls M) (pairs-place 0 (acceptedAdds calls (fresh M)) M e h)
+
+  -- every look answers the next record in work order, or 20 after the last
+  pub look-record : (s : State) → s .position < m .pairs → machineStep m looks s .answers ≡ s .answers ++ (found (getD (m .work) (s .position) (rec 0 0 0)) ∷ [])
+  unfolding machineStep machineRefusal refusal unless
+  look-record s h = rw (ne-eqb (s .position) (m .pairs) (λ (e : s .position ≡ m .pairs). omega arith))
+
+  pub look-end : (s : State) → s .position ≡ m .pairs → machineStep m looks s .answers ≡ s .answers ++ (refused 20 ∷ [])
+  unfolding machineStep machineRefusal refusal unless
+  look-end s e = rw (eq-eqb (s .position) (m .pairs) e)
