@@ -1,0 +1,536 @@
+//! The boundary assembler, for Rust: a safe crate over the static library of `crates/bempp`. Each function is one call of the library, which makes every test
+//! itself. `include/seivalto.h` says what each argument means and which lengths are asked.
+//!
+//! The calls need some 200 KiB of stack.
+mod ffi;
+
+use std::fmt;
+
+use ffi::{CAdded, CIntegrand, CNumbers, CRun, CTerm};
+
+/// DOFs per vertex (a), per edge (b) and per cell (c).
+#[derive(Clone, Copy, Debug, PartialEq, Eq)]
+#[repr(C)]
+pub struct Element {
+    pub a: u32,
+    pub b: u32,
+    pub c: u32,
+}
+
+impl Element {
+    /// The local DOFs of a cell.
+    pub fn dim(self) -> usize {
+        3 * self.a as usize + 3 * self.b as usize + self.c as usize
+    }
+}
+
+/// A term: its kind, 0 to 4, alone or with a factor.
+#[derive(Clone, Copy, Debug, PartialEq)]
+pub enum Term {
+    Bare(u32),
+    Scaled(f64, u32),
+}
+
+/// One or two terms. Where `terms` is 1 the second is not read.
+#[derive(Clone, Copy, Debug, PartialEq)]
+pub struct Integrand {
+    pub terms: u32,
+    pub first: Term,
+    pub second: Term,
+}
+
+impl Integrand {
+    pub fn one(first: Term) -> Integrand {
+        Integrand {
+            terms: 1,
+            first,
+            second: Term::Bare(0),
+        }
+    }
+
+    pub fn two(first: Term, second: Term) -> Integrand {
+        Integrand {
+            terms: 2,
+            first,
+            second,
+        }
+    }
+}
+
+/// The mesh: its sizes, and three vertex and three edge numbers a cell.
+#[derive(Clone, Copy, Debug)]
+pub struct Mesh<'a> {
+    pub cells: u32,
+    pub vertices: u32,
+    pub edges: u32,
+    pub cell_vertices: &'a [u32],
+    pub cell_edges: &'a [u32],
+}
+
+/// The lists that planning writes.
+#[derive(Debug)]
+pub struct Lists<'a> {
+    pub test_dofs: &'a mut [u32],
+    pub trial_dofs: &'a mut [u32],
+    pub test_colours: &'a mut [u32],
+    pub trial_colours: &'a mut [u32],
+    pub test_owners: &'a mut [u32],
+    pub trial_owners: &'a mut [u32],
+    pub work: &'a mut [u32],
+}
+
+/// The plan that the calls of a run are lent: three of the lists that planning wrote.
+#[derive(Clone, Copy, Debug)]
+pub struct Plan<'a> {
+    pub test_dofs: &'a [u32],
+    pub trial_dofs: &'a [u32],
+    pub work: &'a [u32],
+}
+
+/// The numbers that planning hands back.
+#[derive(Clone, Copy, Debug, PartialEq)]
+pub struct Numbers {
+    pub cells: u32,
+    pub vertices: u32,
+    pub edges: u32,
+    pub touching: u32,
+    pub distant: u32,
+    pub rows: u32,
+    pub columns: u32,
+    pub test: Element,
+    pub trial: Element,
+    pub integrand: Integrand,
+}
+
+/// A run, which every call hands back.
+#[derive(Clone, Copy, Debug, PartialEq)]
+pub struct Run {
+    pub numbers: Numbers,
+    pub entries: bool,
+    pub position: u32,
+}
+
+/// A record of the work list: pattern (0 to 27 touching, 255 distant), test cell, trial cell.
+#[derive(Clone, Copy, Debug, PartialEq, Eq)]
+#[repr(C)]
+pub struct Record {
+    pub pattern: u32,
+    pub test_cell: u32,
+    pub trial_cell: u32,
+}
+
+/// What an add of a distant pair is lent beside the plan and the matrix.
+#[derive(Clone, Copy, Debug)]
+pub struct Distant<'a> {
+    pub test_points: usize,
+    pub trial_points: usize,
+    pub test_weights: &'a [f64],
+    pub trial_weights: &'a [f64],
+    pub test_table: &'a [f64],
+    pub trial_table: &'a [f64],
+    pub kernel: &'a [f64],
+    pub test_geometry: &'a [f64],
+    pub trial_geometry: &'a [f64],
+}
+
+/// What an add of a touching pair, or the entries call, is lent beside the plan and what it writes.
+#[derive(Clone, Copy, Debug)]
+pub struct Touching<'a> {
+    pub points: usize,
+    pub weights: &'a [f64],
+    pub test_table: &'a [f64],
+    pub trial_table: &'a [f64],
+    pub kernel: &'a [f64],
+    pub test_geometry: &'a [f64],
+    pub trial_geometry: &'a [f64],
+}
+
+/// The lists that the entries call writes.
+#[derive(Debug)]
+pub struct EntryLists<'a> {
+    pub rows: &'a mut [u32],
+    pub columns: &'a mut [u32],
+    pub values: &'a mut [f64],
+}
+
+/// Why a call was turned down.
+#[derive(Clone, Copy, Debug, PartialEq, Eq)]
+pub enum Refusal {
+    /// 1: the number of cells, or the length of the vertex list.
+    Cells,
+    /// 2: the number of vertices, or a vertex number.
+    Vertices,
+    /// 3: the number of edges, the length of the edge list, an edge number, or the edge rule.
+    Edges,
+    /// 4: the dim of an element.
+    Dim,
+    /// 5: the batch size.
+    Batch,
+    /// 6: the integrand.
+    Integrand,
+    /// 7: a pattern outside the list.
+    Pattern,
+    /// 8: the length of a list that planning writes.
+    ListLength,
+    /// 9: a point count.
+    PointCount,
+    /// 10: the length of a lent weight, table, kernel or geometry list.
+    LentLength,
+    /// 11: one of those numbers.
+    LentNumber,
+    /// 20: no record is left.
+    NoRecordLeft,
+    /// 21: the numbers of the run, or the length of plan, matrix or entry lists.
+    Run,
+    /// 22: the record at the run's position.
+    Record,
+    /// 23: the record, or the run, is of the other kind.
+    Kind,
+}
+
+const NUMBERED: [(u32, Refusal); 15] = [
+    (1, Refusal::Cells),
+    (2, Refusal::Vertices),
+    (3, Refusal::Edges),
+    (4, Refusal::Dim),
+    (5, Refusal::Batch),
+    (6, Refusal::Integrand),
+    (7, Refusal::Pattern),
+    (8, Refusal::ListLength),
+    (9, Refusal::PointCount),
+    (10, Refusal::LentLength),
+    (11, Refusal::LentNumber),
+    (20, Refusal::NoRecordLeft),
+    (21, Refusal::Run),
+    (22, Refusal::Record),
+    (23, Refusal::Kind),
+];
+
+impl Refusal {
+    /// The number that document 01 gives it.
+    pub fn number(self) -> u32 {
+        NUMBERED
+            .iter()
+            .find(|(_, refusal)| *refusal == self)
+            .expect("every refusal is numbered")
+            .0
+    }
+
+    /// The refusal of that number, if there is one.
+    pub fn from_number(number: u32) -> Option<Refusal> {
+        NUMBERED
+            .iter()
+            .find(|(n, _)| *n == number)
+            .map(|(_, refusal)| *refusal)
+    }
+}
+
+impl fmt::Display for Refusal {
+    fn fmt(&self, f: &mut fmt::Formatter<'_>) -> fmt::Result {
+        write!(f, "refused {} ({:?})", self.number(), self)
+    }
+}
+
+impl std::error::Error for Refusal {}
+
+/// What a call with that refusal answers. It is proved that the library answers 0 or one of the numbers above.
+fn answered<T>(refusal: u32, answer: T) -> Result<T, Refusal> {
+    if refusal == 0 {
+        return Ok(answer);
+    }
+    Err(Refusal::from_number(refusal).expect("the library answers a refusal of the list"))
+}
+
+impl From<Term> for CTerm {
+    fn from(term: Term) -> CTerm {
+        match term {
+            Term::Bare(kind) => CTerm {
+                scaled: 0,
+                kind,
+                factor: 0.0,
+            },
+            Term::Scaled(factor, kind) => CTerm {
+                scaled: 1,
+                kind,
+                factor,
+            },
+        }
+    }
+}
+
+impl From<CTerm> for Term {
+    fn from(term: CTerm) -> Term {
+        match term.scaled {
+            0 => Term::Bare(term.kind),
+            _ => Term::Scaled(term.factor, term.kind),
+        }
+    }
+}
+
+impl From<Integrand> for CIntegrand {
+    fn from(f: Integrand) -> CIntegrand {
+        CIntegrand {
+            terms: f.terms,
+            first: f.first.into(),
+            second: f.second.into(),
+        }
+    }
+}
+
+impl From<CIntegrand> for Integrand {
+    fn from(f: CIntegrand) -> Integrand {
+        Integrand {
+            terms: f.terms,
+            first: f.first.into(),
+            second: f.second.into(),
+        }
+    }
+}
+
+impl From<Numbers> for CNumbers {
+    fn from(n: Numbers) -> CNumbers {
+        CNumbers {
+            cells: n.cells,
+            vertices: n.vertices,
+            edges: n.edges,
+            touching: n.touching,
+            distant: n.distant,
+            rows: n.rows,
+            columns: n.columns,
+            test: n.test,
+            trial: n.trial,
+            integrand: n.integrand.into(),
+        }
+    }
+}
+
+impl From<CNumbers> for Numbers {
+    fn from(n: CNumbers) -> Numbers {
+        Numbers {
+            cells: n.cells,
+            vertices: n.vertices,
+            edges: n.edges,
+            touching: n.touching,
+            distant: n.distant,
+            rows: n.rows,
+            columns: n.columns,
+            test: n.test,
+            trial: n.trial,
+            integrand: n.integrand.into(),
+        }
+    }
+}
+
+impl From<Run> for CRun {
+    fn from(run: Run) -> CRun {
+        CRun {
+            numbers: run.numbers.into(),
+            entries: run.entries.into(),
+            position: run.position,
+        }
+    }
+}
+
+impl From<CRun> for Run {
+    fn from(run: CRun) -> Run {
+        Run {
+            numbers: run.numbers.into(),
+            entries: run.entries != 0,
+            position: run.position,
+        }
+    }
+}
+
+/// Plans, and writes the seven lists.
+pub fn plan(
+    mesh: Mesh<'_>,
+    test: Element,
+    trial: Element,
+    batch: u32,
+    integrand: Integrand,
+    lists: Lists<'_>,
+) -> Result<Numbers, Refusal> {
+    // SAFETY: each pointer and length is a slice's, and a `&mut` slice overlaps no other; the library asks nothing more.
+    let planned = unsafe {
+        ffi::seivalto_plan(
+            mesh.cells,
+            mesh.vertices,
+            mesh.edges,
+            mesh.cell_vertices.as_ptr(),
+            mesh.cell_vertices.len(),
+            mesh.cell_edges.as_ptr(),
+            mesh.cell_edges.len(),
+            test,
+            trial,
+            batch,
+            integrand.into(),
+            lists.test_dofs.as_mut_ptr(),
+            lists.test_dofs.len(),
+            lists.trial_dofs.as_mut_ptr(),
+            lists.trial_dofs.len(),
+            lists.test_colours.as_mut_ptr(),
+            lists.test_colours.len(),
+            lists.trial_colours.as_mut_ptr(),
+            lists.trial_colours.len(),
+            lists.test_owners.as_mut_ptr(),
+            lists.test_owners.len(),
+            lists.trial_owners.as_mut_ptr(),
+            lists.trial_owners.len(),
+            lists.work.as_mut_ptr(),
+            lists.work.len(),
+        )
+    };
+    answered(planned.refusal, planned.numbers.into())
+}
+
+impl Numbers {
+    /// A dense run, at the first record.
+    pub fn begin(self) -> Run {
+        // SAFETY: the call is lent nothing.
+        unsafe { ffi::seivalto_begin(self.into()) }.into()
+    }
+
+    /// An entries run, at the first touching record.
+    pub fn begin_entries(self) -> Run {
+        // SAFETY: the call is lent nothing.
+        unsafe { ffi::seivalto_begin_entries(self.into()) }.into()
+    }
+}
+
+fn added(answer: CAdded) -> (Run, Result<(), Refusal>) {
+    (answer.run.into(), answered(answer.refusal, ()))
+}
+
+impl Run {
+    /// The record at the run's position.
+    pub fn look(self, plan: Plan<'_>) -> (Run, Result<Record, Refusal>) {
+        // SAFETY: each pointer and length is a slice's; the library asks nothing more.
+        let looked = unsafe {
+            ffi::seivalto_look(
+                self.into(),
+                plan.test_dofs.as_ptr(),
+                plan.test_dofs.len(),
+                plan.trial_dofs.as_ptr(),
+                plan.trial_dofs.len(),
+                plan.work.as_ptr(),
+                plan.work.len(),
+            )
+        };
+        (looked.run.into(), answered(looked.refusal, looked.record))
+    }
+
+    /// Adds the local matrix of the distant pair at the run's position.
+    pub fn add_distant(
+        self,
+        plan: Plan<'_>,
+        lent: Distant<'_>,
+        matrix: &mut [f64],
+    ) -> (Run, Result<(), Refusal>) {
+        // SAFETY: each pointer and length is a slice's, and the `&mut` slice overlaps no other; the library asks nothing more.
+        added(unsafe {
+            ffi::seivalto_add_distant(
+                self.into(),
+                plan.test_dofs.as_ptr(),
+                plan.test_dofs.len(),
+                plan.trial_dofs.as_ptr(),
+                plan.trial_dofs.len(),
+                plan.work.as_ptr(),
+                plan.work.len(),
+                lent.test_points,
+                lent.trial_points,
+                lent.test_weights.as_ptr(),
+                lent.test_weights.len(),
+                lent.trial_weights.as_ptr(),
+                lent.trial_weights.len(),
+                lent.test_table.as_ptr(),
+                lent.test_table.len(),
+                lent.trial_table.as_ptr(),
+                lent.trial_table.len(),
+                lent.kernel.as_ptr(),
+                lent.kernel.len(),
+                lent.test_geometry.as_ptr(),
+                lent.test_geometry.len(),
+                lent.trial_geometry.as_ptr(),
+                lent.trial_geometry.len(),
+                matrix.as_mut_ptr(),
+                matrix.len(),
+            )
+        })
+    }
+
+    /// Adds the local matrix of the touching pair at the run's position.
+    pub fn add_touching(
+        self,
+        plan: Plan<'_>,
+        lent: Touching<'_>,
+        matrix: &mut [f64],
+    ) -> (Run, Result<(), Refusal>) {
+        // SAFETY: each pointer and length is a slice's, and the `&mut` slice overlaps no other; the library asks nothing more.
+        added(unsafe {
+            ffi::seivalto_add_touching(
+                self.into(),
+                plan.test_dofs.as_ptr(),
+                plan.test_dofs.len(),
+                plan.trial_dofs.as_ptr(),
+                plan.trial_dofs.len(),
+                plan.work.as_ptr(),
+                plan.work.len(),
+                lent.points,
+                lent.weights.as_ptr(),
+                lent.weights.len(),
+                lent.test_table.as_ptr(),
+                lent.test_table.len(),
+                lent.trial_table.as_ptr(),
+                lent.trial_table.len(),
+                lent.kernel.as_ptr(),
+                lent.kernel.len(),
+                lent.test_geometry.as_ptr(),
+                lent.test_geometry.len(),
+                lent.trial_geometry.as_ptr(),
+                lent.trial_geometry.len(),
+                matrix.as_mut_ptr(),
+                matrix.len(),
+            )
+        })
+    }
+
+    /// Of an entries run: writes the local entries of the touching pair at the run's position.
+    pub fn add_entries(
+        self,
+        plan: Plan<'_>,
+        lent: Touching<'_>,
+        lists: EntryLists<'_>,
+    ) -> (Run, Result<(), Refusal>) {
+        // SAFETY: each pointer and length is a slice's, and the `&mut` slices overlap no other; the library asks nothing more.
+        added(unsafe {
+            ffi::seivalto_add_entries(
+                self.into(),
+                plan.test_dofs.as_ptr(),
+                plan.test_dofs.len(),
+                plan.trial_dofs.as_ptr(),
+                plan.trial_dofs.len(),
+                plan.work.as_ptr(),
+                plan.work.len(),
+                lent.points,
+                lent.weights.as_ptr(),
+                lent.weights.len(),
+                lent.test_table.as_ptr(),
+                lent.test_table.len(),
+                lent.trial_table.as_ptr(),
+                lent.trial_table.len(),
+                lent.kernel.as_ptr(),
+                lent.kernel.len(),
+                lent.test_geometry.as_ptr(),
+                lent.test_geometry.len(),
+                lent.trial_geometry.as_ptr(),
+                lent.trial_geometry.len(),
+                lists.rows.as_mut_ptr(),
+                lists.rows.len(),
+                lists.columns.as_mut_ptr(),
+                lists.columns.len(),
+                lists.values.as_mut_ptr(),
+                lists.values.len(),
+            )
+        })
+    }
+}
