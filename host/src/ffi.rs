@@ -1,6 +1,6 @@
 //! What include/seivalto.h declares.
 
-#[derive(Clone, Copy)]
+#[derive(Clone, Copy, Debug)]
 #[repr(C)]
 pub struct CTerm {
     pub scaled: u32,
@@ -8,7 +8,7 @@ pub struct CTerm {
     pub factor: f64,
 }
 
-#[derive(Clone, Copy)]
+#[derive(Clone, Copy, Debug)]
 #[repr(C)]
 pub struct CIntegrand {
     pub terms: u32,
@@ -16,7 +16,7 @@ pub struct CIntegrand {
     pub second: CTerm,
 }
 
-#[derive(Clone, Copy)]
+#[derive(Clone, Copy, Debug)]
 #[repr(C)]
 pub struct CNumbers {
     pub cells: u32,
@@ -37,7 +37,7 @@ pub struct CPlanned {
     pub numbers: CNumbers,
 }
 
-#[derive(Clone, Copy)]
+#[derive(Clone, Copy, Debug)]
 #[repr(C)]
 pub struct CRun {
     pub numbers: CNumbers,
@@ -182,4 +182,200 @@ extern "C" {
         values: *mut f64,
         values_length: usize,
     ) -> CAdded;
+}
+
+/// What only a C caller can give: flags that are neither 0 nor 1, and the answer of a refused planning.
+#[cfg(test)]
+mod tests {
+    use super::*;
+    use crate::Element;
+
+    const ELEMENT: Element = Element { a: 0, b: 0, c: 1 };
+
+    /// Plans a mesh of one triangle with elements that have one DOF a cell.
+    fn planned(batch: u32, integrand: CIntegrand, work: &mut [u32; 3]) -> CPlanned {
+        let (vertices, edges) = ([0, 1, 2], [0, 1, 2]);
+        let (mut dofs, mut colours, mut owners) = ([[9]; 2], [[9]; 2], [[9; 3]; 2]);
+        let [test_dofs, trial_dofs] = &mut dofs;
+        let [test_colours, trial_colours] = &mut colours;
+        let [test_owners, trial_owners] = &mut owners;
+        // SAFETY: each pointer and length is an array's, and no two are of one array.
+        unsafe {
+            seivalto_plan(
+                1,
+                3,
+                3,
+                vertices.as_ptr(),
+                3,
+                edges.as_ptr(),
+                3,
+                ELEMENT,
+                ELEMENT,
+                batch,
+                integrand,
+                test_dofs.as_mut_ptr(),
+                1,
+                trial_dofs.as_mut_ptr(),
+                1,
+                test_colours.as_mut_ptr(),
+                1,
+                trial_colours.as_mut_ptr(),
+                1,
+                test_owners.as_mut_ptr(),
+                3,
+                trial_owners.as_mut_ptr(),
+                3,
+                work.as_mut_ptr(),
+                3,
+            )
+        }
+    }
+
+    /// Looks with the plan of that mesh.
+    fn looked(run: CRun, work: &[u32; 3]) -> CLooked {
+        let dofs = [0];
+        // SAFETY: each pointer and length is an array's.
+        unsafe { seivalto_look(run, dofs.as_ptr(), 1, dofs.as_ptr(), 1, work.as_ptr(), 3) }
+    }
+
+    /// Adds the one pair of that mesh, with the numbers of F1 of document 01, to a matrix of one number.
+    fn added(run: CRun, work: &[u32; 3], matrix: &mut [f64; 1]) -> CAdded {
+        let dofs = [0];
+        let (weights, table, kernel) = ([0.5], [1.0], [0.25]);
+        let mut geometry = [[0.0; 10]; 2];
+        (geometry[0][0], geometry[1][0]) = (2.0, 4.0);
+        // SAFETY: each pointer and length is an array's, and the matrix is of another array than the rest.
+        unsafe {
+            seivalto_add_touching(
+                run,
+                dofs.as_ptr(),
+                1,
+                dofs.as_ptr(),
+                1,
+                work.as_ptr(),
+                3,
+                1,
+                weights.as_ptr(),
+                1,
+                table.as_ptr(),
+                1,
+                table.as_ptr(),
+                1,
+                kernel.as_ptr(),
+                1,
+                geometry[0].as_ptr(),
+                10,
+                geometry[1].as_ptr(),
+                10,
+                matrix.as_mut_ptr(),
+                1,
+            )
+        }
+    }
+
+    fn integrand(scaled: u32, factor: f64) -> CIntegrand {
+        let term = CTerm {
+            scaled,
+            kind: 0,
+            factor,
+        };
+        CIntegrand {
+            terms: 1,
+            first: term,
+            second: term,
+        }
+    }
+
+    fn begun(numbers: CNumbers) -> CRun {
+        // SAFETY: the call is lent nothing.
+        unsafe { seivalto_begin(numbers) }
+    }
+
+    #[test]
+    fn a_bare_term_with_any_factor() {
+        for factor in [0.0, -0.0, 3.0, f64::INFINITY, f64::MIN_POSITIVE] {
+            let (mut work, mut matrix) = ([9; 3], [10.0]);
+            let answer = planned(1, integrand(0, factor), &mut work);
+            assert_eq!((answer.refusal, work), (0, [27, 0, 0]));
+            let run = begun(answer.numbers);
+            let after = added(run, &work, &mut matrix);
+            assert_eq!((after.refusal, matrix), (0, [11.0]));
+            assert_eq!(
+                after.run.numbers.integrand.first.factor.to_bits(),
+                factor.to_bits()
+            );
+        }
+    }
+
+    #[test]
+    fn a_scaled_term_with_any_flag_but_0() {
+        for scaled in [1, 2, 255, 1 << 31, u32::MAX] {
+            let (mut work, mut matrix) = ([9; 3], [10.0]);
+            let answer = planned(1, integrand(scaled, -2.0), &mut work);
+            assert_eq!(answer.refusal, 0);
+            let after = added(begun(answer.numbers), &work, &mut matrix);
+            assert_eq!((after.refusal, matrix), (0, [8.0]));
+            assert_eq!(after.run.numbers.integrand.first.scaled, scaled);
+            assert_eq!(
+                planned(1, integrand(scaled, f64::NAN), &mut work).refusal,
+                6
+            );
+        }
+    }
+
+    #[test]
+    fn an_entries_run_with_any_flag_but_0() {
+        let mut work = [9; 3];
+        let numbers = planned(1, integrand(0, 0.0), &mut work).numbers;
+        for entries in [1, 2, 1 << 31, u32::MAX] {
+            let run = CRun {
+                entries,
+                ..begun(numbers)
+            };
+            let mut matrix = [10.0];
+            let after = added(run, &work, &mut matrix);
+            assert_eq!((after.refusal, matrix), (23, [10.0]));
+            assert_eq!(format!("{:?}", after.run), format!("{run:?}"));
+            let back = looked(run, &work);
+            assert_eq!((back.refusal, back.run.entries), (0, entries));
+        }
+    }
+
+    #[test]
+    fn numbers_of_a_refused_planning() {
+        let mut work = [9; 3];
+        let answer = planned(0, integrand(7, 3.5), &mut work);
+        assert_eq!((answer.refusal, work), (5, [9; 3]));
+        let numbers = answer.numbers;
+        let counts = [
+            numbers.cells,
+            numbers.vertices,
+            numbers.edges,
+            numbers.touching,
+            numbers.distant,
+            numbers.rows,
+            numbers.columns,
+        ];
+        assert_eq!(
+            (counts, numbers.test, numbers.trial),
+            ([0; 7], ELEMENT, ELEMENT)
+        );
+        assert_eq!(
+            (
+                numbers.integrand.first.scaled,
+                numbers.integrand.first.factor
+            ),
+            (7, 3.5)
+        );
+        let back = looked(begun(numbers), &work);
+        assert_eq!(back.refusal, 21);
+        assert_eq!(
+            (
+                back.record.pattern,
+                back.record.test_cell,
+                back.record.trial_cell
+            ),
+            (0, 0, 0)
+        );
+    }
 }

@@ -534,3 +534,23 @@ impl Run {
         })
     }
 }
+
+#[cfg(test)]
+mod tests {
+    use super::*;
+
+    #[test]
+    fn refusals_and_their_numbers() {
+        let numbers: Vec<u32> = (0..100)
+            .filter(|n| Refusal::from_number(*n).is_some())
+            .collect();
+        assert_eq!(numbers, [1, 2, 3, 4, 5, 6, 7, 8, 9, 10, 11, 20, 21, 22, 23]);
+        for n in numbers {
+            assert_eq!(Refusal::from_number(n).map(Refusal::number), Some(n));
+        }
+        assert_eq!(
+            Refusal::NoRecordLeft.to_string(),
+            "refused 20 (NoRecordLeft)"
+        );
+    }
+}

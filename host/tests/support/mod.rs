@@ -1,0 +1,272 @@
+//! Meshes, buffers and lent numbers for the tests.
+#![allow(dead_code)] // each test program uses a part
+use seivalto::*;
+
+pub const VERTEX_ELEMENT: Element = Element { a: 1, b: 0, c: 0 };
+pub const SINGLE_LAYER: Integrand = Integrand {
+    terms: 1,
+    first: Term::Bare(0),
+    second: Term::Bare(0),
+};
+
+/// What a list holds before a call.
+pub const BLANK: u32 = 77;
+
+#[derive(Clone, Debug)]
+pub struct OwnedMesh {
+    pub cells: u32,
+    pub vertices: u32,
+    pub edges: u32,
+    pub cell_vertices: Vec<u32>,
+    pub cell_edges: Vec<u32>,
+}
+
+impl OwnedMesh {
+    pub fn lent(&self) -> Mesh<'_> {
+        Mesh {
+            cells: self.cells,
+            vertices: self.vertices,
+            edges: self.edges,
+            cell_vertices: &self.cell_vertices,
+            cell_edges: &self.cell_edges,
+        }
+    }
+}
+
+/// Mesh M of document 01.
+pub fn mesh_m() -> OwnedMesh {
+    OwnedMesh {
+        cells: 3,
+        vertices: 7,
+        edges: 8,
+        cell_vertices: vec![0, 1, 2, 1, 3, 2, 4, 5, 6],
+        cell_edges: vec![0, 1, 2, 3, 0, 4, 5, 6, 7],
+    }
+}
+
+/// A square of n times n squares, each cut into two triangles.
+pub fn square(n: u32) -> OwnedMesh {
+    let at = |i: u32, j: u32| i + (n + 1) * j;
+    let mut edges: Vec<(u32, u32)> = Vec::new();
+    let mut numbers = std::collections::HashMap::new();
+    let mut mesh = OwnedMesh {
+        cells: 2 * n * n,
+        vertices: (n + 1) * (n + 1),
+        edges: 0,
+        cell_vertices: Vec::new(),
+        cell_edges: Vec::new(),
+    };
+    for j in 0..n {
+        for i in 0..n {
+            for cell in [
+                [at(i, j), at(i + 1, j), at(i, j + 1)],
+                [at(i + 1, j + 1), at(i, j + 1), at(i + 1, j)],
+            ] {
+                mesh.cell_vertices.extend(cell);
+                for (k, l) in [(1, 2), (0, 2), (0, 1)] {
+                    let ends = (cell[k].min(cell[l]), cell[k].max(cell[l]));
+                    let number = *numbers.entry(ends).or_insert_with(|| {
+                        edges.push(ends);
+                        edges.len() as u32 - 1
+                    });
+                    mesh.cell_edges.push(number);
+                }
+            }
+        }
+    }
+    mesh.edges = edges.len() as u32;
+    mesh
+}
+
+#[derive(Clone, Debug, PartialEq, Eq)]
+pub struct OwnedLists {
+    pub test_dofs: Vec<u32>,
+    pub trial_dofs: Vec<u32>,
+    pub test_colours: Vec<u32>,
+    pub trial_colours: Vec<u32>,
+    pub test_owners: Vec<u32>,
+    pub trial_owners: Vec<u32>,
+    pub work: Vec<u32>,
+}
+
+impl OwnedLists {
+    /// Lists of the right lengths.
+    pub fn blank(cells: usize, test: Element, trial: Element) -> OwnedLists {
+        OwnedLists {
+            test_dofs: vec![BLANK; cells * test.dim()],
+            trial_dofs: vec![BLANK; cells * trial.dim()],
+            test_colours: vec![BLANK; cells],
+            trial_colours: vec![BLANK; cells],
+            test_owners: vec![BLANK; 3 * cells * test.dim()],
+            trial_owners: vec![BLANK; 3 * cells * trial.dim()],
+            work: vec![BLANK; 3 * cells * cells],
+        }
+    }
+
+    pub fn lent(&mut self) -> Lists<'_> {
+        Lists {
+            test_dofs: &mut self.test_dofs,
+            trial_dofs: &mut self.trial_dofs,
+            test_colours: &mut self.test_colours,
+            trial_colours: &mut self.trial_colours,
+            test_owners: &mut self.test_owners,
+            trial_owners: &mut self.trial_owners,
+            work: &mut self.work,
+        }
+    }
+
+    pub fn plan(&self) -> Plan<'_> {
+        Plan {
+            test_dofs: &self.test_dofs,
+            trial_dofs: &self.trial_dofs,
+            work: &self.work,
+        }
+    }
+
+    /// The DOFs of a cell.
+    pub fn dofs(list: &[u32], dim: usize, cell: u32) -> &[u32] {
+        &list[dim * cell as usize..][..dim]
+    }
+}
+
+/// Plans on lists of the right lengths.
+pub fn planned(
+    mesh: &OwnedMesh,
+    test: Element,
+    trial: Element,
+    batch: u32,
+    integrand: Integrand,
+) -> (Numbers, OwnedLists) {
+    let mut lists = OwnedLists::blank(mesh.cells as usize, test, trial);
+    let numbers = plan(mesh.lent(), test, trial, batch, integrand, lists.lent())
+        .expect("the planning is good");
+    (numbers, lists)
+}
+
+/// Numbers from 1/8 to 2, another list for each seed.
+pub fn numbers(length: usize, seed: u64) -> Vec<f64> {
+    let mut state = seed.wrapping_mul(0x9e37_79b9_7f4a_7c15) | 1;
+    (0..length)
+        .map(|_| {
+            state = state
+                .wrapping_mul(6_364_136_223_846_793_005)
+                .wrapping_add(1_442_695_040_888_963_407);
+            0.125 + 1.875 * ((state >> 11) as f64 / (1u64 << 53) as f64)
+        })
+        .collect()
+}
+
+/// What an add of a distant pair is lent, for integrands of K = 1 and D = 1.
+#[derive(Clone, Debug)]
+pub struct OwnedDistant {
+    pub test_points: usize,
+    pub trial_points: usize,
+    pub test_weights: Vec<f64>,
+    pub trial_weights: Vec<f64>,
+    pub test_table: Vec<f64>,
+    pub trial_table: Vec<f64>,
+    pub kernel: Vec<f64>,
+    pub test_geometry: Vec<f64>,
+    pub trial_geometry: Vec<f64>,
+}
+
+impl OwnedDistant {
+    pub fn new(t: usize, r: usize, test: Element, trial: Element, seed: u64) -> OwnedDistant {
+        OwnedDistant {
+            test_points: t,
+            trial_points: r,
+            test_weights: numbers(t, seed),
+            trial_weights: numbers(r, seed + 1),
+            test_table: numbers(t * test.dim(), seed + 2),
+            trial_table: numbers(r * trial.dim(), seed + 3),
+            kernel: numbers(t * r, seed + 4),
+            test_geometry: numbers(10 * t, seed + 5),
+            trial_geometry: numbers(10 * r, seed + 6),
+        }
+    }
+
+    pub fn lent(&self) -> Distant<'_> {
+        Distant {
+            test_points: self.test_points,
+            trial_points: self.trial_points,
+            test_weights: &self.test_weights,
+            trial_weights: &self.trial_weights,
+            test_table: &self.test_table,
+            trial_table: &self.trial_table,
+            kernel: &self.kernel,
+            test_geometry: &self.test_geometry,
+            trial_geometry: &self.trial_geometry,
+        }
+    }
+
+    /// Local entry (i, j) of one bare term of kind 0, by document 01.
+    pub fn single_layer(&self, i: usize, j: usize) -> f64 {
+        let (t, r) = (self.test_points, self.trial_points);
+        let mut sum = 0.0;
+        for p in 0..t {
+            for q in 0..r {
+                let value = self.kernel[p + t * q]
+                    * self.test_table[p + t * i]
+                    * self.trial_table[q + r * j];
+                sum += value
+                    * (self.trial_weights[q] * self.trial_geometry[10 * q])
+                    * (self.test_weights[p] * self.test_geometry[10 * p]);
+            }
+        }
+        sum
+    }
+}
+
+/// What an add of a touching pair is lent, for integrands of K = 1 and D = 1.
+#[derive(Clone, Debug)]
+pub struct OwnedTouching {
+    pub points: usize,
+    pub weights: Vec<f64>,
+    pub test_table: Vec<f64>,
+    pub trial_table: Vec<f64>,
+    pub kernel: Vec<f64>,
+    pub test_geometry: Vec<f64>,
+    pub trial_geometry: Vec<f64>,
+}
+
+impl OwnedTouching {
+    pub fn new(points: usize, test: Element, trial: Element, seed: u64) -> OwnedTouching {
+        OwnedTouching {
+            points,
+            weights: numbers(points, seed),
+            test_table: numbers(points * test.dim(), seed + 1),
+            trial_table: numbers(points * trial.dim(), seed + 2),
+            kernel: numbers(points, seed + 3),
+            test_geometry: numbers(10 * points, seed + 4),
+            trial_geometry: numbers(10 * points, seed + 5),
+        }
+    }
+
+    pub fn lent(&self) -> Touching<'_> {
+        Touching {
+            points: self.points,
+            weights: &self.weights,
+            test_table: &self.test_table,
+            trial_table: &self.trial_table,
+            kernel: &self.kernel,
+            test_geometry: &self.test_geometry,
+            trial_geometry: &self.trial_geometry,
+        }
+    }
+
+    /// Local entry (i, j) of one bare term of kind 0, by document 01.
+    pub fn single_layer(&self, i: usize, j: usize) -> f64 {
+        let p = self.points;
+        let mut sum = 0.0;
+        for q in 0..p {
+            let value = self.kernel[q] * self.test_table[q + p * i] * self.trial_table[q + p * j];
+            sum += value
+                * (self.weights[q] * (self.test_geometry[10 * q] * self.trial_geometry[10 * q]));
+        }
+        sum
+    }
+}
+
+pub fn bits(list: &[f64]) -> Vec<u64> {
+    list.iter().map(|x| x.to_bits()).collect()
+}
