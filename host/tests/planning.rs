@@ -129,7 +129,7 @@ fn two_cells_with_the_same_list() {
 
 #[test]
 fn the_largest_mesh_on_a_small_stack() {
-    let run = || {
+    on_a_small_stack(|| {
         let mesh = square(32);
         let (numbers, lists) = planned(
             &mesh,
@@ -152,14 +152,7 @@ fn the_largest_mesh_on_a_small_stack() {
             let place = (record[1] * 2048 + record[2]) as usize;
             assert!(!std::mem::replace(&mut seen[place], true));
         }
-    };
-    let thread = std::thread::Builder::new()
-        .stack_size(256 * 1024)
-        .spawn(run);
-    thread
-        .expect("a thread")
-        .join()
-        .expect("the planning is good");
+    });
 }
 
 #[test]

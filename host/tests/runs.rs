@@ -181,6 +181,31 @@ fn a_whole_entries_run() {
     assert_eq!(bits(&values), bits(&expected_values));
 }
 
+#[test]
+fn the_largest_pairs_on_a_small_stack() {
+    on_a_small_stack(|| {
+        let element = Element { a: 1, b: 2, c: 1 };
+        let integrand = Integrand::two(Term::Scaled(-0.5, 3), Term::Scaled(2.0, 1));
+        let (n, lists) = planned(&mesh_m(), element, element, 1, integrand);
+        let widths = Widths { k: 4, d: 3 };
+        let distant = OwnedDistant::wide(widths, 64, 64, element, element, 1);
+        let touching = OwnedTouching::wide(widths, 2048, element, element, 2);
+        let mut matrix = vec![0.0; (n.rows * n.columns) as usize];
+        let mut run = n.begin();
+        for position in 0..9 {
+            let (next, answer) = if position < n.distant {
+                run.add_distant(lists.plan(), distant.lent(), &mut matrix)
+            } else {
+                run.add_touching(lists.plan(), touching.lent(), &mut matrix)
+            };
+            assert_eq!(answer, Ok(()));
+            run = next;
+        }
+        assert_eq!(run.position, 9);
+        assert!(matrix.iter().any(|x| *x != 0.0));
+    });
+}
+
 /// What a refused call is given, which a test changes.
 struct Case {
     run: Run,

@@ -156,7 +156,25 @@ pub fn numbers(length: usize, seed: u64) -> Vec<f64> {
         .collect()
 }
 
-/// What an add of a distant pair is lent, for integrands of K = 1 and D = 1.
+/// K kernel values of a point, and D rows of a table.
+#[derive(Clone, Copy, Debug)]
+pub struct Widths {
+    pub k: usize,
+    pub d: usize,
+}
+
+/// Those of kinds 0 and 4.
+pub const NARROW: Widths = Widths { k: 1, d: 1 };
+
+/// Runs on a stack of 200 KiB.
+pub fn on_a_small_stack(run: impl FnOnce() + Send + 'static) {
+    let thread = std::thread::Builder::new()
+        .stack_size(200 * 1024)
+        .spawn(run);
+    thread.expect("a thread").join().expect("the run is good");
+}
+
+/// What an add of a distant pair is lent.
 #[derive(Clone, Debug)]
 pub struct OwnedDistant {
     pub test_points: usize,
@@ -172,14 +190,25 @@ pub struct OwnedDistant {
 
 impl OwnedDistant {
     pub fn new(t: usize, r: usize, test: Element, trial: Element, seed: u64) -> OwnedDistant {
+        OwnedDistant::wide(NARROW, t, r, test, trial, seed)
+    }
+
+    pub fn wide(
+        w: Widths,
+        t: usize,
+        r: usize,
+        test: Element,
+        trial: Element,
+        seed: u64,
+    ) -> OwnedDistant {
         OwnedDistant {
             test_points: t,
             trial_points: r,
             test_weights: numbers(t, seed),
             trial_weights: numbers(r, seed + 1),
-            test_table: numbers(t * test.dim(), seed + 2),
-            trial_table: numbers(r * trial.dim(), seed + 3),
-            kernel: numbers(t * r, seed + 4),
+            test_table: numbers(w.d * t * test.dim(), seed + 2),
+            trial_table: numbers(w.d * r * trial.dim(), seed + 3),
+            kernel: numbers(w.k * t * r, seed + 4),
             test_geometry: numbers(10 * t, seed + 5),
             trial_geometry: numbers(10 * r, seed + 6),
         }
@@ -217,7 +246,7 @@ impl OwnedDistant {
     }
 }
 
-/// What an add of a touching pair is lent, for integrands of K = 1 and D = 1.
+/// What an add of a touching pair is lent.
 #[derive(Clone, Debug)]
 pub struct OwnedTouching {
     pub points: usize,
@@ -231,12 +260,22 @@ pub struct OwnedTouching {
 
 impl OwnedTouching {
     pub fn new(points: usize, test: Element, trial: Element, seed: u64) -> OwnedTouching {
+        OwnedTouching::wide(NARROW, points, test, trial, seed)
+    }
+
+    pub fn wide(
+        w: Widths,
+        points: usize,
+        test: Element,
+        trial: Element,
+        seed: u64,
+    ) -> OwnedTouching {
         OwnedTouching {
             points,
             weights: numbers(points, seed),
-            test_table: numbers(points * test.dim(), seed + 1),
-            trial_table: numbers(points * trial.dim(), seed + 2),
-            kernel: numbers(points, seed + 3),
+            test_table: numbers(w.d * points * test.dim(), seed + 1),
+            trial_table: numbers(w.d * points * trial.dim(), seed + 2),
+            kernel: numbers(w.k * points, seed + 3),
             test_geometry: numbers(10 * points, seed + 4),
             trial_geometry: numbers(10 * points, seed + 5),
         }
