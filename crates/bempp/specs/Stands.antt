@@ -1,17 +1,21 @@
 -- The C form of an answer stands for it: read back, its refusal and its run are those that the definitions give, so what holds of a list of calls
--- holds of the same calls through C. A refused call hands the host's run back as it was. Assumes nothing.
+-- holds of the same calls through C. A refused call hands the run back as it was, and a run begun from a refused planning gets 21. Assumes nothing.
 use Prim.Native.Nat.{ℕ, zero, suc}
 use mathlib.Core.Path.{_≡_, refl}
-use mathlib.Core.List.{List}
+use mathlib.Core.Bool.{Bool, true, false}
+use mathlib.Core.List.{List, [], _++_}
 use lib.Ieee.{Float}
 use Rattle.cell_pairs.specs.WorkList.{rec}
 use Rattle.cell_pair_assemblers.specs.Lent.{Touching, Distant}
+use Rattle.lists.specs.Bool.{_and_}
+use Rattle.lists.specs.Refusals.{Check, refusal, unless}
 use Rattle.grid.specs.Mesh.{Mesh}
+use Rattle.boundary_assemblers.specs.declared.Run.{Run}
 use Rattle.boundary_assemblers.specs.declared.WorkRecord.{WorkRecord}
 use Rattle.boundary_assemblers.specs.declared.Looked.{Looked}
 use Rattle.boundary_assemblers.specs.declared.Added.{Added}
 use Rattle.boundary_assemblers.specs.Planning.{planNumbers}
-use Rattle.boundary_assemblers.specs.Runs.{Plan, EntryLists, Answer, found, accepted, refused, begin, beginEntries, recordOf, lookRefusal, look, lookAnswer, lookedAnswer, lookedRun, advance, distantRefusal, touchingRefusal, entriesRefusal, addDistant, addTouching, addEntries, addAnswer, addedAnswer, addedRun}
+use Rattle.boundary_assemblers.specs.Runs.{Plan, EntryLists, Answer, found, accepted, refused, begin, beginEntries, recordOf, rangesRight, stateChecks, lookRefusal, look, lookAnswer, lookedAnswer, lookedRun, advance, distantRefusal, touchingRefusal, entriesRefusal, addDistant, addTouching, addEntries, addAnswer, addedAnswer, addedRun}
 use Rattle.planning.specs.Arguments.{planningOf}
 use Rattle.bempp.specs.declared.CElement.{CElement}
 use Rattle.bempp.specs.declared.CIntegrand.{CIntegrand}
@@ -83,3 +87,30 @@ add-touching-stands c l M a = add-stands c (touchingRefusal (runOf c) l M a)
 pub add-entries-stands : (c : CRun) (l : Plan) (e : EntryLists) (a : Touching) → AddStands c (cAdded c (addEntries (runOf c) l e a)) (addEntries (runOf c) l e a)
 unfolding addEntries
 add-entries-stands c l e a = add-stands c (entriesRefusal (runOf c) l e a)
+
+-- ---- a run begun from the numbers of a refused planning, which have no cell: every call answers 21
+
+no-cell : (c : CRun) → c .numbers .cells ≡ 0 → rangesRight (runOf c) ≡ false
+unfolding rangesRight _and_
+no-cell c e = rw e
+
+out-of-range : (r : Run) (l : Plan) (sized : Bool) (rest : List Check) → rangesRight r ≡ false → refusal (stateChecks r l sized ++ rest) ≡ 21
+unfolding refusal unless _and_
+out-of-range r l sized rest e = rw e
+
+pub record AllRefused (c : CRun) : Type 0 where
+  pub look : (l : Plan) → lookRefusal (runOf c) l ≡ 21
+  pub distant : (l : Plan) (M : List Float) (a : Distant) → distantRefusal (runOf c) l M a ≡ 21
+  pub touching : (l : Plan) (M : List Float) (a : Touching) → touchingRefusal (runOf c) l M a ≡ 21
+  pub entries : (l : Plan) (e : EntryLists) (a : Touching) → entriesRefusal (runOf c) l e a ≡ 21
+
+pub no-cell-refused : (c : CRun) → c .numbers .cells ≡ 0 → AllRefused c
+unfolding lookRefusal distantRefusal touchingRefusal entriesRefusal
+no-cell-refused c e =
+    let out = no-cell c e in
+    record {
+      look = λ l. out-of-range (runOf c) l true [] out;
+      distant = λ l M a. out-of-range (runOf c) l _ _ out;
+      touching = λ l M a. out-of-range (runOf c) l _ _ out;
+      entries = λ l e a. out-of-range (runOf c) l _ _ out;
+    }
