@@ -3,7 +3,8 @@
  * Every function answers every argument: bad meshes, elements, lengths, numbers and runs get a refusal. A refused call changes neither the run nor any list
  * that it was lent. That is proved. What no proof can hold is the caller's part:
  *   - each pointer is aligned and not null, also that of an empty list, and the length after it is the number of elements that stand there;
- *   - a list that is written (one without const) overlaps no other list of the same call;
+ *   - a list that is written (one without const) overlaps no other list of the same call, and no other thread touches it, or writes into a list that is
+ *     only read, during the call;
  *   - some 200 KiB of stack are free.
  *
  * Refusals: 0 is none. Planning:
@@ -22,8 +23,9 @@
  *   11  a lent number that is not finite, or a jdet that is not above 0
  * The state (look answers only 20, 21 and 22):
  *   20  no record is left
- *   21  numbers of the run that no planning hands back, or a plan, matrix or entry list of the wrong length
- *   22  the record at the run's position is none, or a DOF of its cells is not below its size
+ *   21  sizes, elements or integrand of the run as 1 to 4 and 6 turn them down, position or distant above cells * cells, position of an entries run
+ *       below distant, rows or columns above cells * dim, or a plan, matrix or entry list of the wrong length
+ *   22  the record at the run's position has another pattern, a cell not below cells, or a DOF of its cells is not below rows or columns
  *   23  the record, or the run, is of the other kind
  * Planning tests 1 to 8 in this order, the adds and the entries call 21, 20, 22, 23, 9, 10, 11, look 21, 20, 22. */
 #ifndef SEIVALTO_H
@@ -179,7 +181,7 @@ seivalto_added seivalto_add_touching(
     double *matrix, size_t matrix_length);
 
 /* Of an entries run: writes row, column and value of each local entry of the touching pair at the run's position into three lists, each
- * touching * test dim * trial dim long, trial basis outer, from place (position - distant) * test dim * trial dim on. */
+ * (cells * cells - distant) * test dim * trial dim long, trial basis outer, from place (position - distant) * test dim * trial dim on. */
 seivalto_added seivalto_add_entries(
     seivalto_run run,
     const uint32_t *test_dofs, size_t test_dofs_length,
