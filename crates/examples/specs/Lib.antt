@@ -7,7 +7,8 @@ use Rattle.integrands.specs.Examples.{F3, F4, F3-holds, F4-holds}
 use Rattle.cell_pair_assemblers.specs.Examples.{F1, F2, F1-rounded, F2-rounded, F1-holds, F2-holds, F1-rounded-holds, F2-rounded-holds}
 use Rattle.cell_pairs.specs.Examples.{M4-records, M5-records, M7-records, M4-records-holds, M5-records-holds, M7-records-holds}
 use Rattle.boundary_assemblers.specs.Examples.{M-planned, M-sizes, M6-distant, M6-touching, M6-sum, M7-refused, M7-planned, M8-batch, M8-cells, M-planned-holds, M-sizes-holds, M6-distant-holds, M6-touching-holds, M6-sum-holds, M7-refused-holds, M7-planned-holds, M8-batch-holds, M8-cells-holds}
-use Rattle.job.specs.Examples.{M4, M5, M7-turned-text, M7-twice-text, M8-batch-text, M4-short, M4-longer, job-large, M4-holds, M5-holds, M7-turned-text-holds, M7-twice-text-holds, M8-batch-text-holds, M4-short-holds, M4-longer-holds, job-large-holds}
+use Rattle.job.specs.Examples.{M4-read, M4-vertices, M4-edges, short-refused, short-vertices, large-limited, large-free, M4-read-holds, M4-vertices-holds, M4-edges-holds, short-refused-holds, short-vertices-holds, large-limited-holds, large-free-holds}
+use Rattle.job_text.specs.Examples.{M4, M5, M7-turned-text, M7-twice-text, M8-batch-text, M4-short, M4-longer, job-large, M4-holds, M5-holds, M7-turned-text-holds, M7-twice-text-holds, M8-batch-text-holds, M4-short-holds, M4-longer-holds, job-large-holds}
 
 -- the paper's
 abbrev pub examples : List Example
@@ -47,12 +48,12 @@ theorem =
     and-also F4-holds
     and-also no-more
 
--- and some beside them: M4 and M5 as records, M accepted, M7 and M8 as text, jobs cut short, longer and too large, owner records, a DOF count, and sums
--- in which rounding shows
+-- and some beside them: M4 and M5 as records, M accepted, M7 and M8 as text, jobs cut short, longer and too large, what reading a job answers and writes,
+-- owner records, a DOF count, and sums in which rounding shows
 abbrev pub more : List Example
 more =
     M4-records ∷ M5-records ∷ M-planned ∷ M-sizes ∷ M7-turned-text ∷ M7-twice-text ∷ M8-batch-text
-    ∷ M4-short ∷ M4-longer ∷ job-large ∷ M2-owners ∷ M2-count ∷ F1-rounded ∷ F2-rounded ∷ []
+    ∷ M4-short ∷ M4-longer ∷ job-large ∷ M4-read ∷ M4-vertices ∷ M4-edges ∷ short-refused ∷ short-vertices ∷ large-limited ∷ large-free ∷ M2-owners ∷ M2-count ∷ F1-rounded ∷ F2-rounded ∷ []
 
 pub more-hold : Agree more
 more-hold =
@@ -66,6 +67,13 @@ more-hold =
     and-also M4-short-holds
     and-also M4-longer-holds
     and-also job-large-holds
+    and-also M4-read-holds
+    and-also M4-vertices-holds
+    and-also M4-edges-holds
+    and-also short-refused-holds
+    and-also short-vertices-holds
+    and-also large-limited-holds
+    and-also large-free-holds
     and-also M2-owners-holds
     and-also M2-count-holds
     and-also F1-rounded-holds

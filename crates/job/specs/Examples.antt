@@ -1,139 +1,82 @@
--- M4, M5, M7 and M8 of the paper, as `worklist` prints them. Assumes nothing.
-use Prim.Native.Nat.{ℕ, _/_, _%_}
+-- The job of M4 as bytes, and what reading it answers and writes; beside the paper's examples. Assumes nothing.
+use Prim.Native.Nat.{ℕ}
 use mathlib.Core.Path.{refl}
-use mathlib.Core.List.{List, [], _∷_, _++_, flatMap}
-use lib.ListN.{length, take, replicate}
-use Rattle.lists.specs.Examples.{Example, example, Holds}
-use Rattle.grid.specs.Mesh.{Mesh}
-use Rattle.grid.specs.Examples.{M, M7-turned, M7-twice}
-use Rattle.boundary_assemblers.specs.Examples.{opened-boundary-assemblers}
-use Rattle.job.specs.Job.{jobRight, jobSmall, jobMesh, jobPlanning}
-use Rattle.job.specs.Text.{digits, lineOf, refusedLine, jobRefusal, worklist}
+use mathlib.Core.Bool.{true, false}
+use mathlib.Core.List.{List, [], _∷_, _++_}
+use lib.ListN.{take, replicate}
+use Rattle.lists.specs.Examples.{Example, example, Holds, opened-lists}
+use Rattle.grid.specs.Examples.{M}
+use Rattle.function.specs.Examples.{element}
+use Rattle.job.specs.declared.JobRead.the-variants.{Whole}
+use Rattle.job.specs.Job.{jobRight, jobSmall, jobRefusal, readJob, readNumber, front, vertexList, edgeList}
 
--- opens the definitions of this crate and of those below it
+-- opens the definitions of this crate and of `lists`
 unfoldable pub opened-job : Unit {0}
-unfolding opened-boundary-assemblers jobRight jobSmall jobMesh jobPlanning digits lineOf refusedLine jobRefusal worklist
+unfolding opened-lists jobRight jobSmall jobRefusal readJob front vertexList edgeList
 opened-job = tt
 
--- a number as 2 bytes
-abbrev bytes : ℕ → List ℕ
-bytes n = n / 256 ∷ n % 256 ∷ []
+-- length 51, version 1, C = 3, V = 7, E = 8, both elements a = 1, batch 2; vertices; edges
+abbrev m4 : List ℕ
+m4 =
+    0 ∷ 0 ∷ 0 ∷ 51 ∷ 1 ∷ 0 ∷ 3 ∷ 0 ∷ 7 ∷ 0 ∷ 8 ∷ 1 ∷ 0 ∷ 0 ∷ 1 ∷ 0 ∷ 0 ∷ 0 ∷ 2
+    ∷ 0 ∷ 0 ∷ 0 ∷ 1 ∷ 0 ∷ 2 ∷ 0 ∷ 1 ∷ 0 ∷ 3 ∷ 0 ∷ 2 ∷ 0 ∷ 4 ∷ 0 ∷ 5 ∷ 0 ∷ 6
+    ∷ 0 ∷ 0 ∷ 0 ∷ 1 ∷ 0 ∷ 2 ∷ 0 ∷ 3 ∷ 0 ∷ 0 ∷ 0 ∷ 4 ∷ 0 ∷ 5 ∷ 0 ∷ 6 ∷ 0 ∷ 7
+    ∷ []
 
--- the job of a mesh, both elements a = 1
-abbrev jobOf : Mesh → ℕ → List ℕ
-jobOf m B =
-    let rest : List ℕ =
-    1 ∷ bytes (m .cells) ++ bytes (m .vertices) ++ bytes (m .edges)
-    ++ 1 ∷ 0 ∷ 0 ∷ 1 ∷ 0 ∷ 0 ∷ bytes B
-    ++ flatMap bytes (m .cellVertices) ++ flatMap bytes (m .cellEdges) in
-    bytes (length rest / 65536) ++ bytes (length rest % 65536) ++ rest
+abbrev pub M4-read : Example
+M4-read =
+    example (readJob m4 true)
+    (Whole (record { cells = 3; vertices = 7; edges = 8; test = element 1 0 0; trial = element 1 0 0; batch = 2 }))
 
--- lines of text, as bytes
-abbrev 255·2·0 : List ℕ
-255·2·0 = 50 ∷ 53 ∷ 53 ∷ 32 ∷ 50 ∷ 32 ∷ 48 ∷ 10 ∷ []
-
-abbrev 255·0·2 : List ℕ
-255·0·2 = 50 ∷ 53 ∷ 53 ∷ 32 ∷ 48 ∷ 32 ∷ 50 ∷ 10 ∷ []
-
-abbrev 255·2·1 : List ℕ
-255·2·1 = 50 ∷ 53 ∷ 53 ∷ 32 ∷ 50 ∷ 32 ∷ 49 ∷ 10 ∷ []
-
-abbrev 255·1·2 : List ℕ
-255·1·2 = 50 ∷ 53 ∷ 53 ∷ 32 ∷ 49 ∷ 32 ∷ 50 ∷ 10 ∷ []
-
-abbrev 11·0·1 : List ℕ
-11·0·1 = 49 ∷ 49 ∷ 32 ∷ 48 ∷ 32 ∷ 49 ∷ 10 ∷ []
-
-abbrev 15·1·0 : List ℕ
-15·1·0 = 49 ∷ 53 ∷ 32 ∷ 49 ∷ 32 ∷ 48 ∷ 10 ∷ []
-
-abbrev 27·0·0 : List ℕ
-27·0·0 = 50 ∷ 55 ∷ 32 ∷ 48 ∷ 32 ∷ 48 ∷ 10 ∷ []
-
-abbrev 27·1·1 : List ℕ
-27·1·1 = 50 ∷ 55 ∷ 32 ∷ 49 ∷ 32 ∷ 49 ∷ 10 ∷ []
-
-abbrev 27·2·2 : List ℕ
-27·2·2 = 50 ∷ 55 ∷ 32 ∷ 50 ∷ 32 ∷ 50 ∷ 10 ∷ []
-
-abbrev 27·0·1 : List ℕ
-27·0·1 = 50 ∷ 55 ∷ 32 ∷ 48 ∷ 32 ∷ 49 ∷ 10 ∷ []
-
-abbrev 27·1·0 : List ℕ
-27·1·0 = 50 ∷ 55 ∷ 32 ∷ 49 ∷ 32 ∷ 48 ∷ 10 ∷ []
-
-abbrev refused·7 : List ℕ
-refused·7 = 114 ∷ 101 ∷ 102 ∷ 117 ∷ 115 ∷ 101 ∷ 100 ∷ 32 ∷ 55 ∷ 10 ∷ []
-
-abbrev refused·5 : List ℕ
-refused·5 = 114 ∷ 101 ∷ 102 ∷ 117 ∷ 115 ∷ 101 ∷ 100 ∷ 32 ∷ 53 ∷ 10 ∷ []
-
-abbrev refused·12 : List ℕ
-refused·12 = 114 ∷ 101 ∷ 102 ∷ 117 ∷ 115 ∷ 101 ∷ 100 ∷ 32 ∷ 49 ∷ 50 ∷ 10 ∷ []
-
-abbrev refused·13 : List ℕ
-refused·13 = 114 ∷ 101 ∷ 102 ∷ 117 ∷ 115 ∷ 101 ∷ 100 ∷ 32 ∷ 49 ∷ 51 ∷ 10 ∷ []
-
--- M4: both elements a = 1, batch 2
-abbrev pub M4 : Example
-M4 = example (worklist (jobOf M 2)) (255·2·0 ++ 255·0·2 ++ 255·2·1 ++ 255·1·2 ++ 11·0·1 ++ 15·1·0 ++ 27·0·0 ++ 27·1·1 ++ 27·2·2)
-
-pub M4-holds : Holds M4
+pub M4-read-holds : Holds M4-read
 unfolding opened-job
-M4-holds = refl
+M4-read-holds = refl
 
--- M5: batch 1: the first two lines trade places
-abbrev pub M5 : Example
-M5 = example (worklist (jobOf M 1)) (255·0·2 ++ 255·2·0 ++ 255·2·1 ++ 255·1·2 ++ 11·0·1 ++ 15·1·0 ++ 27·0·0 ++ 27·1·1 ++ 27·2·2)
+-- a list that is longer than 3C keeps its tail
+abbrev pub M4-vertices : Example
+M4-vertices = example (vertexList m4 true (replicate 11 99)) (M .cellVertices ++ 99 ∷ 99 ∷ [])
 
-pub M5-holds : Holds M5
+pub M4-vertices-holds : Holds M4-vertices
 unfolding opened-job
-M5-holds = refl
+M4-vertices-holds = refl
 
--- M7: cells (0,1,2), (1,2,0), batch 1: 7
-abbrev pub M7-turned-text : Example
-M7-turned-text = example (worklist (jobOf M7-turned 1)) (refused·7)
+-- one that is shorter gets as many as it has room for
+abbrev pub M4-edges : Example
+M4-edges = example (edgeList m4 true (replicate 5 99)) (take 5 (M .cellEdges))
 
-pub M7-turned-text-holds : Holds M7-turned-text
+pub M4-edges-holds : Holds M4-edges
 unfolding opened-job
-M7-turned-text-holds = refl
+M4-edges-holds = refl
 
--- M7: cells (0,1,2) twice: four records of 27
-abbrev pub M7-twice-text : Example
-M7-twice-text = example (worklist (jobOf M7-twice 1)) (27·0·0 ++ 27·0·1 ++ 27·1·0 ++ 27·1·1)
+-- one byte short: 12, and nothing is written
+abbrev pub short-refused : Example
+short-refused = example (readNumber (readJob (take 54 m4) false)) 12
 
-pub M7-twice-text-holds : Holds M7-twice-text
+pub short-refused-holds : Holds short-refused
 unfolding opened-job
-M7-twice-text-holds = refl
+short-refused-holds = refl
 
--- M8: M planned with batch 0: 5
-abbrev pub M8-batch-text : Example
-M8-batch-text = example (worklist (jobOf M 0)) (refused·5)
+abbrev pub short-vertices : Example
+short-vertices = example (vertexList (take 54 m4) false (replicate 9 99)) (replicate 9 99)
 
-pub M8-batch-text-holds : Holds M8-batch-text
+pub short-vertices-holds : Holds short-vertices
 unfolding opened-job
-M8-batch-text-holds = refl
+short-vertices-holds = refl
 
--- Beside the paper's: the job of M4 one byte short is 12
-abbrev pub M4-short : Example
-M4-short = example (worklist (take 54 (jobOf M 2))) (refused·12)
+-- 65 cells: 13 where the job is limited to 64, and else no refusal
+abbrev large : List ℕ
+large = 0 ∷ 0 ∷ 3 ∷ 27 ∷ 1 ∷ 0 ∷ 65 ∷ replicate 792 0
 
-pub M4-short-holds : Holds M4-short
+abbrev pub large-limited : Example
+large-limited = example (readNumber (readJob large true)) 13
+
+pub large-limited-holds : Holds large-limited
 unfolding opened-job
-M4-short-holds = refl
+large-limited-holds = refl
 
--- and one byte longer
-abbrev pub M4-longer : Example
-M4-longer = example (worklist (jobOf M 2 ++ 0 ∷ [])) (refused·12)
+abbrev pub large-free : Example
+large-free = example (readNumber (readJob large false)) 0
 
-pub M4-longer-holds : Holds M4-longer
+pub large-free-holds : Holds large-free
 unfolding opened-job
-M4-longer-holds = refl
-
--- a whole job of 65 cells is 13
-abbrev pub job-large : Example
-job-large = example (worklist (jobOf (record { cells = 65; vertices = 3; edges = 3; cellVertices = replicate 195 0; cellEdges = replicate 195 0 }) 1)) (refused·13)
-
-pub job-large-holds : Holds job-large
-unfolding opened-job
-job-large-holds = refl
+large-free-holds = refl

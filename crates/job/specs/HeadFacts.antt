@@ -2,48 +2,63 @@
 use Prim.Native.Nat.{ℕ, _+_, _*_, _≤_, _<_}
 use native.Mathlib.Omega.{arith}
 use mathlib.Core.Path.{_≡_, refl, sym, _∙_}
-use mathlib.Core.Bool.{Bool, true, false, cond}
+use mathlib.Core.Logic.{⊎-elim}
+use mathlib.Core.Bool.{Bool, true, false, _&&_, cond}
 use mathlib.Core.List.{List}
-use lib.ListN.{length, take, getD}
+use lib.ListN.{length, take, getD, length-take}
 use lib.Seq.{getD-take}
 use lib.Dec.{leb, eqb}
-use borrow.Author.Tests.{eqb-true, eqb-false, eq-eqb, ne-eqb, le-leb, lt-leb}
-use Rattle.lists.specs.Bool.{_and_, and-left, and-right, and-both, and-no-left, and-no-right}
-use Rattle.lists.specs.Refusals.{refusal-fails, refusal-passes}
-use Rattle.job.specs.Job.{restLength, version, cellCount, jobRight, jobSmall}
-use Rattle.job.specs.Text.{refusedLine, worklist}
-use Rattle.job.specs.Head.{headRight, largeRefusal}
-use Rattle.job.specs.WorklistFacts.{refused-worklist}
+use borrow.Author.Tests.{leb-true, leb-false, eqb-true, eqb-false, eq-eqb, ne-eqb, le-leb, lt-leb}
+use Rattle.lists.specs.Bool.{_and_, _or_, true≢false, cases, and-left, and-right, and-both, and-no-left, and-no-right, or-none}
+use Rattle.lists.specs.Refusals.{refusal, refusal-fails, refusal-passes}
+use Rattle.job.specs.declared.HeadRead.the-variants.{Cells, Refused}
+use Rattle.job.specs.Job.{restLength, version, cellCount, jobRight, jobSmall, jobChecks, jobRefusal}
+use Rattle.job.specs.Head.{headRight, headAnswer, readHead, largeRefusal}
 
--- the first 7 bytes are read alone
-pub head-alone : (s : List ℕ) → (headRight (take 7 s) ≡ headRight s) × (cellCount (take 7 s) ≡ cellCount s)
+-- ---- the code's tests
+
+-- too short
+pub short-head : (s : List ℕ) → length s < 7 → false ≡ headRight s
 unfolding headRight
-head-alone s =
-    let at : (k : ℕ) → k < 7 → getD (take 7 s) k 0 ≡ getD s k 0 = λ k h. getD-take 7 s k 0 h in (
-      rw (at 0 (omega arith), at 1 (omega arith), at 2 (omega arith), at 3 (omega arith), at 4 (omega arith), at 5 (omega arith), at 6 (omega arith)),
-      rw (at 5 (omega arith), at 6 (omega arith)),
-    )
+short-head s h = sym (and-no-left _ _ (and-no-left _ _ (lt-leb 7 (length s) h)))
 
-later-fails : (a v r : Bool) → v and r ≡ false → a and v and r ≡ false
-unfolding _and_
-later-fails true v r e = e
-later-fails false v r e = refl
+-- the tests of one that is not
+pub long-head : (s : List ℕ) (rest v cells : ℕ) → 7 ≤ length s → rest ≡ restLength s → v ≡ version s → cells ≡ cellCount s
+    → eqb v 1 && eqb rest (15 + 12 * cells) ≡ headRight s
+unfolding headRight _and_
+long-head s rest v cells h e₁ e₂ e₃ = rw (le-leb 7 (length s) h, e₁, e₂, e₃)
 
-wrong-fails : (s : List ℕ) → headRight s ≡ false → jobRight s ≡ false
+pub head-long : (s : List ℕ) → headRight s ≡ true → 7 ≤ length s
+unfolding headRight
+head-long s h = leb-true _ _ (and-left _ _ (and-left _ _ h))
+
+pub head-cells : (s : List ℕ) {C : ℕ} → headRight s ≡ true → C ≡ cellCount s → Cells C ≡ readHead s
+unfolding readHead
+head-cells s h e = rw (h, e)
+
+pub head-refused : (s : List ℕ) → headRight s ≡ false → Refused 12 ≡ readHead s
+unfolding readHead
+head-refused s h = rw h
+
+-- ---- check 12 by the first 7 bytes and the number of bytes
+
+right-head : (s : List ℕ) → jobRight s ≡ true → headRight s ≡ true
 unfolding headRight jobRight
-wrong-fails s e = later-fails (leb 19 (length s) and eqb (length s) (4 + restLength s)) (eqb (version s) 1) (eqb (restLength s) (15 + 12 * cellCount s)) e
+right-head s h =
+    let long : 19 ≤ length s = leb-true _ _ (and-left _ _ (and-left _ _ (and-left _ _ h))) in
+    and-both _ _ (and-both _ _ (le-leb 7 (length s) (omega arith)) (and-right _ _ (and-left _ _ h))) (and-right _ _ h)
 
--- they are wrong: 12, whatever follows
-pub head-wrong : (s : List ℕ) → headRight (take 7 s) ≡ false → refusedLine 12 ≡ worklist s
-head-wrong s h = refused-worklist s 12 (sym (refusal-fails 12 _ _ (wrong-fails s (sym (head-alone s .0) ∙ h)))) (λ (e : 12 ≡ 0). omega arith)
+-- they are wrong
+pub wrong-fails : (s : List ℕ) → headRight s ≡ false → jobRight s ≡ false
+wrong-fails s h = ⊎-elim (λ e. absurd (true≢false (sym (right-head s e) ∙ h))) (λ e. e) (cases (jobRight s))
 
--- they are right: the number of bytes decides check 12
-right-by-length : (s : List ℕ) → headRight s ≡ true → jobRight s ≡ eqb (length s) (19 + 12 * cellCount s)
+-- they are right: the number of bytes decides
+pub right-by-length : (s : List ℕ) → headRight s ≡ true → eqb (length s) (19 + 12 * cellCount s) ≡ jobRight s
 unfolding headRight jobRight
-right-by-length s h = go (eqb (length s) (19 + 12 * cellCount s)) refl
+right-by-length s h = sym (go (eqb (length s) (19 + 12 * cellCount s)) refl)
   where
     version-right : eqb (version s) 1 ≡ true
-    version-right = and-left _ _ h
+    version-right = and-right _ _ (and-left _ _ h)
 
     rest : restLength s ≡ 15 + 12 * cellCount s
     rest = eqb-true _ _ (and-right _ _ h)
@@ -59,15 +74,42 @@ right-by-length s h = go (eqb (length s) (19 + 12 * cellCount s)) refl
         let other : length s ≡ 19 + 12 * cellCount s → ⊥ = eqb-false _ _ e in
         and-no-left _ _ (and-no-left _ _ (and-no-right _ _ (ne-eqb _ _ (λ (k : length s ≡ 4 + restLength s). other (omega (arith, rest))))))
 
--- and say more than 64 cells: 12 or 13
-pub head-large : (s : List ℕ) → headRight (take 7 s) ≡ true → 64 < cellCount (take 7 s)
-    → refusedLine (largeRefusal (cellCount (take 7 s)) (length s)) ≡ worklist s
-unfolding jobSmall
-head-large s h large =
-    let right : headRight s ≡ true = sym (head-alone s .0) ∙ h in
-    let many : 64 < cellCount s = rw (head-alone s .1) at large in
-    rw (head-alone s .1) (go (eqb (length s) (19 + 12 * cellCount s)) (right-by-length s right) many)
+-- ---- what they decide
+
+-- the first 7 bytes are read alone
+pub head-alone : (s : List ℕ) → readHead (take 7 s) ≡ readHead s
+unfolding readHead headRight
+head-alone s =
+    let at : (k : ℕ) → k < 7 → getD (take 7 s) k 0 ≡ getD s k 0 = λ k h. getD-take 7 s k 0 h in
+    rw (there (leb 7 (length s)) refl, at 0 (omega arith), at 1 (omega arith), at 2 (omega arith), at 3 (omega arith), at 4 (omega arith), at 5 (omega arith), at 6 (omega arith))
   where
-    go : (b : Bool) → jobRight s ≡ b → 64 < cellCount s → refusedLine (cond b 13 12) ≡ worklist s
-    go true e many = refused-worklist s 13 (sym (refusal-passes 12 _ _ e ∙ refusal-fails 13 _ _ (lt-leb _ _ many))) (λ (k : 13 ≡ 0). omega arith)
-    go false e many = refused-worklist s 12 (sym (refusal-fails 12 _ _ e)) (λ (k : 12 ≡ 0). omega arith)
+    there : (b : Bool) → leb 7 (length s) ≡ b → leb 7 (length (take 7 s)) ≡ leb 7 (length s)
+    there true e = let h : 7 ≤ length s = leb-true _ _ e in le-leb 7 (length (take 7 s)) (omega (arith, length-take 7 s)) ∙ sym e
+    there false e = let h : length s < 7 = leb-false _ _ e in lt-leb 7 (length (take 7 s)) (omega (arith, length-take 7 s)) ∙ sym e
+
+answer-refused : (b : Bool) (C n : ℕ) → headAnswer b C ≡ Refused n → (b ≡ false) × (n ≡ 12)
+answer-refused true C n e = let z : _≡_ {A = ℕ} 0 1 = cc in absurd (omega arith)
+answer-refused false C n e = (refl, cc)
+
+answer-cells : (b : Bool) (C D : ℕ) → headAnswer b C ≡ Cells D → (b ≡ true) × (D ≡ C)
+answer-cells true C D e = (refl, cc)
+answer-cells false C D e = let z : _≡_ {A = ℕ} 0 1 = cc in absurd (omega arith)
+
+-- they are refused: so is the job, whatever follows
+pub head-wrong : (s : List ℕ) {n : ℕ} → readHead (take 7 s) ≡ Refused n → (n ≡ 12) × ((limited : Bool) → n ≡ jobRefusal s limited)
+unfolding readHead jobRefusal
+head-wrong s {n} e =
+    let wrong = answer-refused (headRight s) (cellCount s) n (sym (head-alone s) ∙ e) in
+    (wrong .1, λ limited. wrong .1 ∙ sym (refusal-fails 12 _ _ (wrong-fails s (wrong .0))))
+
+-- they say more than 64 cells: 12 or 13
+pub head-large : (s : List ℕ) {C : ℕ} → readHead (take 7 s) ≡ Cells C → 64 < C → largeRefusal C (length s) ≡ jobRefusal s true
+unfolding readHead jobRefusal jobSmall
+head-large s {C} e large =
+    let right = answer-cells (headRight s) (cellCount s) C (sym (head-alone s) ∙ e) in
+    let many = rw (right .1) at large in
+    rw (right .1) (go (eqb (length s) (19 + 12 * cellCount s)) (sym (right-by-length s (right .0))) many)
+  where
+    go : (b : Bool) → jobRight s ≡ b → 64 < cellCount s → cond b 13 12 ≡ refusal (jobChecks s true)
+    go true e many = sym (refusal-passes 12 _ _ e ∙ refusal-fails 13 _ _ (or-none _ _ (lt-leb _ _ many) refl))
+    go false e many = sym (refusal-fails 12 _ _ e)

@@ -1,93 +1,176 @@
 -- What the code of the job format rests on. Assumes nothing.
-use Prim.Native.Nat.{ℕ, _+_, _*_, _≤_, _<_}
-use native.Mathlib.Numerals.{add-one}
+use Prim.Native.Nat.{ℕ, zero, suc, _+_, _*_, _≤_, _<_}
+use native.Mathlib.Nat.{zero-add}
 use native.Mathlib.Omega.{arith}
-use mathlib.Core.Path.{_≡_, refl, sym, ap, ap₂, _∙_}
-use mathlib.Core.Bool.{true, false, _&&_}
-use mathlib.Core.List.{List, [], _∷_, _++_, map-append}
-use lib.ListN.{length, set, length-map}
-use lib.Seq.{sets, length-sets}
-use lib.Dec.{eqb}
-use borrow.Author.Tests.{leb-true, eqb-true, le-leb, lt-leb}
-use Rattle.lists.specs.Bool.{_and_, and-left, and-right, and-no-left}
+use mathlib.Core.Path.{_≡_, refl, sym, ap, _∙_}
+use mathlib.Core.Bool.{Bool, true, false, not, _&&_}
+use mathlib.Core.Logic.{⊎-elim}
+use mathlib.Core.List.{List, [], _∷_, _++_, map-append, append-nil}
+use lib.ListN.{length, set, take, drop, length-map, drop-of-length-le}
+use lib.Seq.{length-take-le, take-all, take-at, take-append-le}
+use lib.Dec.{leb, ltb}
+use borrow.Author.Tests.{leb-true, ltb-true, ltb-false, eqb-true, le-leb, lt-leb}
+use Rattle.lists.specs.Bool.{_or_, and-left, and-right, or-left, or-right, or-none, true≢false}
+use Rattle.lists.specs.Bounded.{lt-or-le}
 use Rattle.lists.specs.Range.{range, length-range}
-use Rattle.lists.specs.Stores.{sets-more, sets-all}
-use Rattle.lists.specs.Refusals.{refusal, refusal-zero}
-use Rattle.job.specs.Job.{two, twos, restLength, version, cellCount, jobRight, jobSmall, jobChecks}
+use Rattle.lists.specs.Stores.{sets-all}
+use Rattle.lists.specs.Writes.{Stores, stores-turn, stores-done}
+use Rattle.lists.specs.Refusals.{refusal-zero, refusal-none, refusal-fails, refusal-passes}
+use Rattle.job.specs.declared.JobNumbers.{JobNumbers}
+use Rattle.job.specs.declared.JobRead.{JobRead}
+use Rattle.job.specs.declared.JobRead.the-variants.{Whole, Refused}
+use Rattle.job.specs.Job.{two, twos, restLength, cellCount, jobNumbers, jobVertices, jobEdges, jobRight, jobSmall, jobRefusal, readAnswer, readJob, front, vertexList, edgeList}
 
--- ---- check 12
+-- ---- checks 12 and 13
 
--- too short for the fields before the lists
-pub short-job : (s : List ℕ) → length s < 19 → false ≡ jobRight s
-unfolding jobRight
-short-job s h = sym (and-no-left _ _ (and-no-left _ _ (and-no-left _ _ (lt-leb 19 (length s) h))))
-
--- the tests of one that is not
-pub long-job : (s : List ℕ) (rest v cells : ℕ) → 19 ≤ length s → rest ≡ restLength s → v ≡ version s → cells ≡ cellCount s
-    → (eqb (length s) (4 + rest) && eqb v 1) && eqb rest (15 + 12 * cells) ≡ jobRight s
-unfolding jobRight _and_
-long-job s rest v cells h e₁ e₂ e₃ = rw (le-leb 19 (length s) h, e₁, e₂, e₃)
-
--- a job that passes is long enough for them, and holds its numbers
-pub record Whole (s : List ℕ) : Type 0 where
+-- a job that passes 12 holds its fields and its lists
+pub record Long (s : List ℕ) : Type 0 where
   pub fields : 19 ≤ length s
   pub long : length s ≡ 19 + 12 * cellCount s
 
-pub job-whole : (s : List ℕ) → jobRight s ≡ true → Whole s
+pub right-long : (s : List ℕ) → jobRight s ≡ true → Long s
 unfolding jobRight
-job-whole s h =
+right-long s h =
     let rest : restLength s ≡ 15 + 12 * cellCount s = eqb-true _ _ (and-right _ _ h) in
     let says : length s ≡ 4 + restLength s = eqb-true _ _ (and-right _ _ (and-left _ _ (and-left _ _ h))) in
     record { fields = leb-true _ _ (and-left _ _ (and-left _ _ (and-left _ _ h))); long = omega arith }
 
--- a job that passes 13 too
-pub record Passed (s : List ℕ) : Type 0 where
-  pub fields : 19 ≤ length s
-  pub long : length s ≡ 19 + 12 * cellCount s
-  pub small : cellCount s ≤ 64
+both : (a b : Bool) → a && b ≡ true → (a ≡ true) × (b ≡ true)
+both true b e = (refl, e)
+both false b e = absurd (true≢false (sym e))
 
-pub job-passed : (s : List ℕ) → refusal (jobChecks s) ≡ 0 → Passed s
-unfolding jobSmall
-job-passed s e =
-    let c₁ = refusal-zero 11 _ _ e in
-    let c₂ = refusal-zero 12 _ _ (c₁ .1) in
-    let whole = job-whole s (c₁ .0) in
-    record { fields = whole .fields; long = whole .long; small = leb-true _ _ (c₂ .0) }
+module _ (s : List ℕ) (limited : Bool) where
+  -- the code's three ways out
+  pub refusal-12 : jobRight s ≡ false → 12 ≡ jobRefusal s limited
+  unfolding jobRefusal
+  refusal-12 e = sym (refusal-fails 12 _ _ e)
+
+  pub refusal-13 : jobRight s ≡ true → {C : ℕ} → C ≡ cellCount s → limited && ltb 64 C ≡ true → 13 ≡ jobRefusal s limited
+  unfolding jobRefusal jobSmall
+  refusal-13 e {C} c h =
+      let l = both limited (ltb 64 C) h in
+      let many : 64 < cellCount s = rw c at (ltb-true 64 C (l .1)) in
+      sym (refusal-passes 12 _ _ e ∙ refusal-fails 13 _ _ (or-none _ _ (lt-leb _ _ many) (ap not (l .0))))
+
+  pub refusal-0 : jobRight s ≡ true → {C : ℕ} → C ≡ cellCount s → limited && ltb 64 C ≡ false → 0 ≡ jobRefusal s limited
+  unfolding jobRefusal jobSmall
+  refusal-0 e {C} c h = sym (refusal-passes 12 _ _ e ∙ refusal-passes 13 _ _ (passes limited (rw c at h)) ∙ refusal-none)
+    where
+      passes : (b : Bool) → b && ltb 64 (cellCount s) ≡ false → leb (cellCount s) 64 or not b ≡ true
+      passes true k = let few : cellCount s ≤ 64 = ltb-false 64 (cellCount s) k in or-left _ _ (le-leb _ _ few)
+      passes false k = or-right _ _ refl
+
+  -- no refusal: the job is long enough
+  pub passed-long : jobRefusal s limited ≡ 0 → Long s
+  unfolding jobRefusal
+  passed-long e = right-long s (refusal-zero 11 _ _ e .0)
 
 -- ---- numbers of 2 bytes, one after the other
-
-twos-more : (s : List ℕ) (k n : ℕ) → twos s k (n + 1) ≡ twos s k n ++ (two s (k + 2 * n) ∷ [])
-unfolding range
-twos-more s k n = rw (add-one n) (map-append (λ i. two s (k + 2 * i)) (range n) (n ∷ []))
 
 pub length-twos : (s : List ℕ) (k n : ℕ) → length (twos s k n) ≡ n
 length-twos s k n = length-map (range n) (λ i. two s (k + 2 * i)) ∙ length-range n
 
--- the first i numbers from byte k on are read
-pub record Filled (s : List ℕ) (k : ℕ) (before after : List ℕ) (i : ℕ) : Type 0 where
-  pub upto : i ≤ length before
-  pub list : after ≡ sets before 0 (twos s k i)
+-- a loop that reads one after the other into a list (`Stores`): one more is read, and all are
+abbrev pub Filled : List ℕ → ℕ → List ℕ → List ℕ → ℕ → Type 0
+Filled s k before after i = Stores (λ j. two s (k + 2 * j)) (length before) before after 0 i
 
-pub filled-start : (s : List ℕ) (k : ℕ) (before : List ℕ) → Filled s k before before 0
+pub filled-turn : (s : List ℕ) (k : ℕ) {i : ℕ} {before after : List ℕ} → Filled s k before after i → i < length before → {v : ℕ} → v ≡ two s (k + 2 * i)
+    → Filled s k before (set after i v) (i + 1)
+filled-turn s k {i} f h e = rw e (rw (zero-add i) at (stores-turn f h))
+
+pub filled-done : (s : List ℕ) (k : ℕ) {i : ℕ} {before after : List ℕ} → Filled s k before after i → length before ≤ i → after ≡ twos s k (length before)
+filled-done s k {before = before} f h = stores-done f h ∙ sets-all before (twos s k (length before)) (length-twos s k (length before))
+
+-- ---- numbers at the front of a list
+
+take-twos : (s : List ℕ) (k m n : ℕ) → m ≤ n → take m (twos s k n) ≡ twos s k m
 unfolding range
-filled-start s k before = record { upto = omega arith; list = refl }
+take-twos s k m zero h = let z : m ≡ 0 = omega arith in rw z
+take-twos s k m (suc n) h = ⊎-elim (λ l. shorter l (take-twos s k m n (omega arith))) whole (lt-or-le m (suc n))
+  where
+    shorter : m < suc n → take m (twos s k n) ≡ twos s k m → take m (twos s k (suc n)) ≡ twos s k m
+    shorter l e =
+        ap (take m) (map-append (λ i. two s (k + 2 * i)) (range n) (n ∷ []))
+        ∙ take-append-le m (twos s k n) (two s (k + 2 * n) ∷ []) (omega (arith, length-twos s k n))
+        ∙ e
 
-module _ {s : List ℕ} {k : ℕ} {before after : List ℕ} {i : ℕ} (f : Filled s k before after i) where
-  pub filled-length : length after ≡ length before
-  filled-length = ap length (f .list) ∙ length-sets before 0 (twos s k i)
+    whole : suc n ≤ m → take m (twos s k (suc n)) ≡ twos s k m
+    whole l = let e : m ≡ suc n = omega arith in rw e (take-all (suc n) (twos s k (suc n)) (omega (arith, length-twos s k (suc n))))
 
-  pub filled-turn : i < length before → {v : ℕ} → v ≡ two s (k + 2 * i) → Filled s k before (set after i v) (i + 1)
-  filled-turn h {v} e =
-      record {
-        upto = omega arith;
-        list =
-            ap₂ (λ (l : List ℕ) (x : ℕ). set l i x) (f .list) e
-            ∙ ap (λ (j : ℕ). set (sets before 0 (twos s k i)) j (two s (k + 2 * i))) (omega (arith, length-twos s k i))
-            ∙ sets-more before 0 (twos s k i) (two s (k + 2 * i))
-            ∙ ap (sets before 0) (sym (twos-more s k i));
-      }
+module _ (s : List ℕ) (k n : ℕ) (list : List ℕ) where
+  -- a part of it is lent, and read
+  pub front-part : n < length list → {part : List ℕ} → part ≡ twos s k (length (take n list)) → part ++ drop n list ≡ front (twos s k n) list
+  unfolding front
+  front-part h e =
+      rw (e, length-take-le n list (omega arith), take-all (length list) (twos s k n) (omega (arith, length-twos s k n)), length-twos s k n)
 
-  pub filled-done : length before ≤ i → after ≡ twos s k (length before)
-  filled-done h =
-      let i=n : i ≡ length before = omega arith in
-      rw i=n at (f .list) ∙ sets-all before (twos s k (length before)) (length-twos s k (length before))
+  -- the whole of it
+  pub front-whole : length list ≤ n → twos s k (length list) ≡ front (twos s k n) list
+  unfolding front
+  front-whole h = rw (take-twos s k (length list) n h, length-twos s k n, drop-of-length-le list {i = n} h, append-nil)
+
+-- ---- what reading a job answers and writes
+
+module _ (s : List ℕ) (limited : Bool) where
+  pub read-refused : {v : ℕ} → v ≡ jobRefusal s limited → (v ≡ 0 → ⊥) → {vs es : List ℕ}
+      → (Refused v ≡ readJob s limited) × ((vs ≡ vertexList s limited vs) × (es ≡ edgeList s limited es))
+  unfolding readJob vertexList edgeList
+  read-refused {v} e h {vs} {es} = go v h e
+    where
+      go : (v : ℕ) → (v ≡ 0 → ⊥) → v ≡ jobRefusal s limited
+          → (Refused v ≡ readJob s limited) × ((vs ≡ vertexList s limited vs) × (es ≡ edgeList s limited es))
+      go zero h e = absurd (h refl)
+      go (suc v) h e = (rw (← e), (rw (← e), rw (← e)))
+
+  pub read-whole : jobRefusal s limited ≡ 0 → {n : JobNumbers} {C : ℕ} → n ≡ jobNumbers s → C ≡ cellCount s → (vs es : List ℕ) {vs′ es′ : List ℕ}
+      → vs′ ≡ front (twos s 19 (3 * C)) vs → es′ ≡ front (twos s (19 + 2 * (3 * C)) (3 * C)) es
+      → (Whole n ≡ readJob s limited) × ((vs′ ≡ vertexList s limited vs) × (es′ ≡ edgeList s limited es))
+  unfolding readJob vertexList edgeList
+  read-whole e {n} {C} en ec vs es ev ee =
+      let at : 19 + 2 * (3 * C) ≡ 19 + 6 * cellCount s = omega (arith, ec) in
+      let vertices = rw ec at ev in
+      let edges = rw ec at (rw at at ee) in
+      (rw (e, en), (rw e vertices, rw e edges))
+
+-- ---- how a caller takes the answer apart
+
+answer-whole : (v : ℕ) (m n : JobNumbers) → readAnswer v m ≡ Whole n → (v ≡ 0) × (n ≡ m)
+answer-whole zero m n e = (refl, cc)
+answer-whole (suc v) m n e = let z : _≡_ {A = ℕ} 0 1 = cc in absurd (omega arith)
+
+answer-refused : (v n : ℕ) (m : JobNumbers) → readAnswer v m ≡ Refused n → (n ≡ v) × (0 < n)
+answer-refused zero n m e = let z : _≡_ {A = ℕ} 0 1 = cc in absurd (omega arith)
+answer-refused (suc v) n m e = let same : n ≡ suc v = cc in (same, omega arith)
+
+module _ (s : List ℕ) (limited : Bool) {r : JobRead} (answers : r ≡ readJob s limited) where
+  pub read-numbers : {n : JobNumbers} → r ≡ Whole n → (jobRefusal s limited ≡ 0) × (n ≡ jobNumbers s)
+  unfolding readJob
+  read-numbers {n} e = answer-whole (jobRefusal s limited) (jobNumbers s) n (sym answers ∙ e)
+
+  pub read-refusal : {v : ℕ} → r ≡ Refused v → (v ≡ jobRefusal s limited) × (0 < v)
+  unfolding readJob
+  read-refusal {v} e = answer-refused (jobRefusal s limited) v (jobNumbers s) (sym answers ∙ e)
+
+-- at most 64 cells
+pub limited-small : (s : List ℕ) → jobRefusal s true ≡ 0 → cellCount s ≤ 64
+unfolding jobRefusal jobSmall _or_
+limited-small s e = leb-true _ _ (small (leb (cellCount s) 64) (refusal-zero 12 _ _ (refusal-zero 11 _ _ e .1) .0))
+  where
+    small : (b : Bool) → b or false ≡ true → b ≡ true
+    small true e = refl
+    small false e = e
+
+-- the two lists, where there is room
+take-front : (s : List ℕ) (k n : ℕ) (list : List ℕ) → n ≤ length list → take n (front (twos s k n) list) ≡ twos s k n
+unfolding front
+take-front s k n list h =
+    rw (take-all (length list) (twos s k n) (omega (arith, length-twos s k n))) (take-at (twos s k n) _ n (length-twos s k n))
+
+module _ (s : List ℕ) (limited : Bool) (none : jobRefusal s limited ≡ 0) (list : List ℕ) (room : 3 * cellCount s ≤ length list) where
+  pub take-vertices : take (3 * cellCount s) (vertexList s limited list) ≡ jobVertices s
+  unfolding vertexList
+  take-vertices = rw none (take-front s 19 (3 * cellCount s) list room)
+
+  pub take-edges : take (3 * cellCount s) (edgeList s limited list) ≡ jobEdges s
+  unfolding edgeList
+  take-edges = rw none (take-front s (19 + 6 * cellCount s) (3 * cellCount s) list room)

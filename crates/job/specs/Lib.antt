@@ -1,12 +1,7 @@
--- The job format with checks 12 and 13 (`Job`), what `worklist` prints (`Text`), the same for lists of numbers, for a planning and by the first 7 bytes
--- (`Lines`, `PlannedText`, `Head`), what the code rests on (`JobFacts`, `TextFacts`, `WorklistFacts`, `HeadFacts`), and the examples (`Examples`).
+-- The job format with checks 12 and 13, and what reading a job answers and writes (`Job`); what its first 7 bytes say (`Head`); what the code rests on and
+-- what those bytes decide (`JobFacts`, `HeadFacts`); and examples (`Examples`).
 pub mod Job
-pub mod JobFacts
-pub mod Text
-pub mod Lines
-pub mod TextFacts
-pub mod PlannedText
-pub mod WorklistFacts
 pub mod Head
+pub mod JobFacts
 pub mod HeadFacts
 pub mod Examples

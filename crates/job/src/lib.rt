@@ -1,10 +1,30 @@
-// The job format: reading a job (`reading`), text (`text`), and what `worklist` prints (`worklist`).
+// The job format: the fields of a job and checks 12 and 13 (`reading`), and what its first 7 bytes decide (`head`).
+mod head;
 mod reading;
-mod text;
-mod worklist;
 
-pub use reading::cell_count;
-pub use reading::head_right;
-pub use reading::large_refusal;
-pub use worklist::refused_text;
-pub use worklist::worklist_text;
+use function::Element;
+pub use head::large_refusal;
+pub use head::read_head;
+pub use reading::read_job;
+
+// The numbers of a job that stand before its lists: C, V, E, the two elements and the batch size.
+pub struct JobNumbers {
+    pub cells: u32,
+    pub vertices: u32,
+    pub edges: u32,
+    pub test: Element,
+    pub trial: Element,
+    pub batch: u32,
+}
+
+// What reading a job answers.
+pub enum JobRead {
+    Whole(JobNumbers),
+    Refused(u32),
+}
+
+// What the first 7 bytes of a job answer: C, or that they are refused whatever follows.
+pub enum HeadRead {
+    Cells(u32),
+    Refused(u32),
+}

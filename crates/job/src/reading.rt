@@ -1,64 +1,41 @@
-// Reads the fields of a job, big-endian, and checks 12 and 13.
+// Reads a job: checks 12 and 13, the numbers and the two lists.
+use crate::JobNumbers;
+use crate::JobRead;
+use crate::head::byte_at;
+use crate::head::head_right;
+use crate::head::two_at;
 use function::Element;
 use grid::wide;
 ghost use mathlib.Core.Path.{_≡_};
 ghost use Prim.Native.Nat.{_+_, _*_, _≤_, _<_};
 ghost use lib.ListN.{length};
-ghost use Rattle.lists.specs.Refusals.{refusal};
-ghost use Rattle.job.specs.Head.{headRight, largeRefusal};
-ghost use Rattle.job.specs.Job.{byte, two, four, cellCount, twos, elementAt, jobRight, jobChecks};
+ghost use Rattle.job.specs.Job.{twos, elementAt, jobNumbers, jobRight, jobRefusal, front, readJob, vertexList, edgeList};
 
-// A byte as a number.
-fn number(x: u8) -> u32
-    ensures { λ r. ⌜ (r ≡ x) × (r < 256) ⌝ }
+// Check 12.
+fn job_right(bytes: &[u8]) -> bool
+    ensures { λ r. ⌜ r ≡ jobRight (now (bytes .entry)) ⌝ }
 {
-    x as u32
-}
-
-// Byte k.
-pub fn byte_at(bytes: &[u8], k: usize) -> u32
-    requires { ⌜ k < length (now bytes) ⌝ }
-    ensures { λ r. ⌜ (r ≡ byte (now (bytes .entry)) k) × (r < 256) ⌝ }
-{
-    number(bytes[k])
-}
-
-// The number of 2 bytes from byte k on.
-pub fn two_at(bytes: &[u8], k: usize) -> u32
-    requires { ⌜ k + 1 < length (now bytes) ⌝ }
-    ensures { λ r. ⌜ (r ≡ two (now (bytes .entry)) k) × (r < 65536) ⌝ }
-{
-    256 * byte_at(bytes, k) + byte_at(bytes, k + 1)
-}
-
-// The number of 4 bytes from byte k on.
-pub fn four_at(bytes: &[u8], k: usize) -> u32
-    requires { ⌜ k + 3 < length (now bytes) ⌝ }
-    ensures { λ r. ⌜ r ≡ four (now (bytes .entry)) k ⌝ }
-{
-    65536 * two_at(bytes, k) + two_at(bytes, k + 2)
-}
-
-// C.
-pub fn cell_count(bytes: &[u8]) -> usize
-    requires { ⌜ 7 ≤ length (now bytes) ⌝ }
-    ensures { λ r. ⌜ (r ≡ cellCount (now (bytes .entry))) × (r < 65536) ⌝ }
-{
-    wide(two_at(bytes, 5))
-}
-
-// Numbers of 2 bytes from byte `at` on, as many as out has room for.
-pub fn read_numbers(bytes: &[u8], at: usize, out: &mut [u32])
-    requires { ⌜ at + 2 * length (now out) ≤ length (now bytes) ⌝ }
-    ensures { λ _. ⌜ now (out .exit) ≡ twos (now (bytes .entry)) at (length (now (out .entry))) ⌝ }
-{
-    for i in 0..out.len() {
-        out[i] = two_at(bytes, at + 2 * i);
+    if !head_right(bytes) {
+        return false;
     }
+    bytes.len() == 19 + 12 * wide(two_at(bytes, 5))
+}
+
+// The first check that turns the job down, 12 or, where asked, 13; or 0.
+fn job_refusal(bytes: &[u8], limited: bool) -> u32
+    ensures { λ r. ⌜ r ≡ jobRefusal (now (bytes .entry)) limited ⌝ }
+{
+    if !job_right(bytes) {
+        return 12;
+    }
+    if limited & (64 < two_at(bytes, 5)) {
+        return 13;
+    }
+    0
 }
 
 // The element whose a, b and c are bytes k, k + 1 and k + 2.
-pub fn element_at(bytes: &[u8], k: usize) -> Element
+fn element_at(bytes: &[u8], k: usize) -> Element
     requires { ⌜ k + 2 < length (now bytes) ⌝ }
     ensures { λ r. ⌜ r ≡ elementAt (now (bytes .entry)) k ⌝ }
 {
@@ -68,47 +45,70 @@ pub fn element_at(bytes: &[u8], k: usize) -> Element
     Element { a: a, b: b, c: c }
 }
 
-// Whether the first 7 bytes are right: `head-wrong` and `head-large` of specs/HeadFacts say what they decide.
-pub fn head_right(head: &[u8]) -> bool
-    requires { ⌜ 7 ≤ length (now head) ⌝ }
-    ensures { λ r. ⌜ r ≡ headRight (now (head .entry)) ⌝ }
+// The numbers before the lists.
+fn numbers_of(bytes: &[u8]) -> JobNumbers
+    requires { ⌜ 19 ≤ length (now bytes) ⌝ }
+    ensures { λ r. ⌜ (r ≡ jobNumbers (now (bytes .entry))) × (r .cells < 65536) ⌝ }
 {
-    let rest = wide(four_at(head, 0));
-    let version = byte_at(head, 4);
-    let cells = cell_count(head);
-    (version == 1) & (rest == 15 + 12 * cells)
+    let cells = two_at(bytes, 5);
+    let vertices = two_at(bytes, 7);
+    let edges = two_at(bytes, 9);
+    let test = element_at(bytes, 11);
+    let trial = element_at(bytes, 14);
+    let batch = two_at(bytes, 17);
+    JobNumbers {
+        cells: cells,
+        vertices: vertices,
+        edges: edges,
+        test: test,
+        trial: trial,
+        batch: batch,
+    }
 }
 
-// 12 or 13, for a job of more than 64 cells of which so many bytes came.
-pub fn large_refusal(cells: usize, bytes: usize) -> u32
-    requires { ⌜ cells < 65536 ⌝ }
-    ensures { λ r. ⌜ r ≡ largeRefusal cells bytes ⌝ }
+// Numbers of 2 bytes from byte `at` on, as many as the list is long.
+fn read_numbers(bytes: &[u8], at: usize, list: &mut [u32])
+    requires { ⌜ at + 2 * length (now list) ≤ length (now bytes) ⌝ }
+    ensures { λ _. ⌜ now (list .exit) ≡ twos (now (bytes .entry)) at (length (now (list .entry))) ⌝ }
 {
-    if bytes == 19 + 12 * cells { 13 } else { 12 }
+    for i in 0..list.len() {
+        list[i] = two_at(bytes, at + 2 * i);
+    }
 }
 
-// Check 12.
-fn job_right(bytes: &[u8]) -> bool
-    ensures { λ r. ⌜ r ≡ jobRight (now (bytes .entry)) ⌝ }
+// n such numbers, as far as the list has room; the rest of a longer list stays.
+fn read_front(bytes: &[u8], at: usize, n: usize, list: &mut [u32])
+    requires { ⌜ at + 2 * n ≤ length (now bytes) ⌝ }
+    ensures { λ _. ⌜ now (list .exit) ≡ front (twos (now (bytes .entry)) at n) (now (list .entry)) ⌝ }
 {
-    if bytes.len() < 19 {
-        return false;
+    if n < list.len() {
+        read_numbers(bytes, at, &mut list[..n]);
+    } else {
+        read_numbers(bytes, at, list);
     }
-    let rest = wide(four_at(bytes, 0));
-    let version = byte_at(bytes, 4);
-    let cells = cell_count(bytes);
-    (bytes.len() == 4 + rest) & (version == 1) & (rest == 15 + 12 * cells)
 }
 
-// The first check that turns the job down, 12 or 13, or 0.
-pub fn job_refusal(bytes: &[u8]) -> u32
-    ensures { λ r. ⌜ r ≡ refusal (jobChecks (now (bytes .entry))) ⌝ }
+// Reads a job: its numbers, with its vertices and edges at the front of the two lists, as far as these have room; or 12; or, where it is
+// limited to the 64 cells of `worklist`, 13. A refusal writes nothing.
+pub fn read_job(
+    bytes: &[u8],
+    limited: bool,
+    vertex_list: &mut [u32],
+    edge_list: &mut [u32],
+) -> JobRead
+    ensures { λ r. ⌜ r ≡ readJob (now (bytes .entry)) limited ⌝ }
+    ensures { λ _. ⌜ now («vertex_list» .exit) ≡ vertexList (now (bytes .entry)) limited (now («vertex_list» .entry)) ⌝ }
+    ensures { λ _. ⌜ now («edge_list» .exit) ≡ edgeList (now (bytes .entry)) limited (now («edge_list» .entry)) ⌝ }
 {
-    if !job_right(bytes) {
-        return 12;
+    let refused = job_refusal(bytes, limited);
+    if refused != 0 {
+        return JobRead::Refused(refused);
     }
-    if 64 < cell_count(bytes) {
-        return 13;
-    }
-    0
+    let numbers = numbers_of(bytes);
+    let n = 3 * wide(numbers.cells);
+    let vertices_at = 19;
+    let edges_at = 19 + 2 * n;
+    read_front(bytes, vertices_at, n, vertex_list);
+    read_front(bytes, edges_at, n, edge_list);
+    JobRead::Whole(numbers)
 }

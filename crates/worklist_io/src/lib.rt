@@ -1,14 +1,15 @@
 // Reads one job from standard input and prints its work list, or `refused n`. No more of the input is read than the answer needs:
 // the first 7 bytes say how long a job is, and one byte more than that is read, to see that it is not longer.
-use job::cell_count;
-use job::head_right;
+use grid::wide;
+use job::HeadRead;
 use job::large_refusal;
-use job::refused_text;
-use job::worklist_text;
+use job::read_head;
+use job_text::refused_text;
+use job_text::worklist_text;
 use libc::STDIN_FILENO;
 use libc::STDOUT_FILENO;
 ghost use mathlib.Core.Path.{_≡_};
-ghost use Prim.Native.Nat.{_≤_, _<_, min};
+ghost use Prim.Native.Nat.{_≤_, min};
 ghost use lib.ListN.{length};
 
 fn least(a: usize, b: usize) -> usize
@@ -50,22 +51,39 @@ fn text_of(bytes: &[u8], n: usize, text: &mut [u8; 49152]) -> usize
 }
 
 // The text of a job of at most 64 cells, whose first 7 bytes are read.
-fn small_text(bytes: &mut [u8], cells: usize, text: &mut [u8; 49152]) -> usize
+fn small_text(bytes: &mut [u8], cells: u32, text: &mut [u8; 49152]) -> usize
     requires { ⌜ (cells ≤ 64) × (788 ≤ length (now bytes)) ⌝ }
     ensures { λ r. ⌜ r ≤ 49152 ⌝ }
 {
-    let more = read_some(&mut bytes[7..], 13 + 12 * cells);
+    let more = read_some(&mut bytes[7..], 13 + 12 * wide(cells));
     text_of(bytes, 7 + more, text)
 }
 
 // The text of a job of more than 64 cells, whose first 7 bytes are read.
-fn large_text(cells: usize, text: &mut [u8; 49152]) -> usize
-    requires { ⌜ cells < 65536 ⌝ }
+fn large_text(cells: u32, text: &mut [u8; 49152]) -> usize
     ensures { λ r. ⌜ r ≤ 49152 ⌝ }
 {
-    let more = skip(text, 13 + 12 * cells);
+    let more = skip(text, 13 + 12 * wide(cells));
     let refused = large_refusal(cells, 7 + more);
     refused_text(refused, text)
+}
+
+// The text of a job of so many cells, whose first 7 bytes are read.
+fn text_by_cells(bytes: &mut [u8], cells: u32, text: &mut [u8; 49152]) -> usize
+    requires { ⌜ 788 ≤ length (now bytes) ⌝ }
+    ensures { λ r. ⌜ r ≤ 49152 ⌝ }
+{
+    if cells <= 64 {
+        return small_text(bytes, cells, text);
+    }
+    large_text(cells, text)
+}
+
+// What the first n bytes say.
+fn head_of(bytes: &[u8], n: usize) -> HeadRead
+    requires { ⌜ n ≤ length (now bytes) ⌝ }
+{
+    read_head(&bytes[..n])
 }
 
 // The text of what standard input holds.
@@ -74,17 +92,11 @@ fn answer(bytes: &mut [u8], text: &mut [u8; 49152]) -> usize
     ensures { λ r. ⌜ r ≤ 49152 ⌝ }
 {
     let got = read_some(bytes, 7);
-    if got < 7 {
-        return refused_text(12, text);
+    let head = head_of(bytes, got);
+    match head {
+        HeadRead::Cells(cells) => text_by_cells(bytes, cells, text),
+        HeadRead::Refused(n) => refused_text(n, text),
     }
-    if !head_right(bytes) {
-        return refused_text(12, text);
-    }
-    let cells = cell_count(bytes);
-    if cells <= 64 {
-        return small_text(bytes, cells, text);
-    }
-    large_text(cells, text)
 }
 
 // Prints the first n bytes, by one call.

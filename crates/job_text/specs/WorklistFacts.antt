@@ -1,0 +1,110 @@
+-- What `worklist` prints, by what reading the job answers and leaves, by its first 7 bytes, and how it stands in the array. Assumes nothing.
+use Prim.Native.Nat.{ℕ, zero, suc, _+_, _*_, _≤_, _<_}
+use native.Mathlib.Omega.{arith}
+use mathlib.Core.Path.{_≡_, refl, sym, ap, _∙_}
+use mathlib.Core.Bool.{Bool, true, false, cond}
+use mathlib.Core.List.{List, _++_}
+use lib.ListN.{length, take, drop}
+use lib.Dec.{eqb}
+use Rattle.lists.specs.Refusals.{refusal-zero, refusal-passes, refusal-first}
+use Rattle.lists.specs.Stores.{sets-front}
+use Rattle.lists.specs.Writes.{numbers, Wrote}
+use Rattle.boundary_assemblers.specs.Planning.{listsFor, planChecks, planRefusal}
+use Rattle.job.specs.declared.JobNumbers.{JobNumbers}
+use Rattle.job.specs.declared.JobRead.{JobRead}
+use Rattle.job.specs.declared.JobRead.the-variants.{Whole, Refused}
+use Rattle.job.specs.declared.HeadRead.the-variants as head
+use Rattle.job.specs.Job.{jobChecks, jobRefusal, readJob, vertexList, edgeList}
+use Rattle.job.specs.JobFacts.{read-numbers, read-refusal, limited-small, take-vertices, take-edges}
+use Rattle.job.specs.Head.{readHead, largeRefusal}
+use Rattle.job.specs.HeadFacts.{head-wrong, head-large}
+use Rattle.job_text.specs.Text.{refusedLine, numbersPlanning, jobPlanning, worklistRefusal, textAnswer, worklist}
+use Rattle.job_text.specs.TextFacts.{refused-short}
+use Rattle.job_text.specs.PlannedText.{answerText, plannedText, rightText, Printed}
+use Rattle.job_text.specs.PlannedFacts.{text-short}
+
+-- ---- what `worklist` prints
+
+-- 12 or 13
+pub refused-worklist : (s : List ℕ) {v : ℕ} → v ≡ jobRefusal s true → 0 < v → refusedLine v ≡ worklist s
+unfolding worklist worklistRefusal jobRefusal
+refused-worklist s {v} e h =
+    go v h ∙ ap (λ (k : ℕ). textAnswer k s) (refusal-first (jobChecks s true) (planChecks (jobPlanning s) (listsFor (jobPlanning s))) v e (λ (z : v ≡ 0). omega arith))
+  where
+    go : (k : ℕ) → 0 < k → refusedLine k ≡ textAnswer k s
+    go zero l = absurd (omega arith)
+    go (suc k) l = refl
+
+-- a job that passes 12 and 13 is planned
+passes-on : (s : List ℕ) → jobRefusal s true ≡ 0 → worklistRefusal s ≡ planRefusal (jobPlanning s) (listsFor (jobPlanning s))
+unfolding jobRefusal worklistRefusal planRefusal
+passes-on s e =
+    let c₁ = refusal-zero 11 _ _ e in
+    let c₂ = refusal-zero 12 _ _ (c₁ .1) in
+    refusal-passes 12 _ _ (c₁ .0) ∙ refusal-passes 13 _ _ (c₂ .0)
+
+planned-worklist : (s : List ℕ) → jobRefusal s true ≡ 0 → rightText (jobPlanning s) ≡ worklist s
+unfolding worklist plannedText
+planned-worklist s e =
+    go (planRefusal (jobPlanning s) (listsFor (jobPlanning s))) ∙ ap (λ (k : ℕ). textAnswer k s) (sym (passes-on s e))
+  where
+    go : (k : ℕ) → answerText k (jobPlanning s) ≡ textAnswer k s
+    go zero = refl
+    go (suc k) = refl
+
+-- it is never longer than the array
+pub worklist-short : (s : List ℕ) → length (worklist s) ≤ 49152
+unfolding jobPlanning
+worklist-short s = go (jobRefusal s true) refl
+  where
+    go : (v : ℕ) → jobRefusal s true ≡ v → length (worklist s) ≤ 49152
+    go zero e = rw (planned-worklist s e) at (text-short (jobPlanning s) (listsFor (jobPlanning s)) (limited-small s e))
+    go (suc v) e = let few : length (refusedLine (suc v)) ≤ 49152 = omega (arith, refused-short (suc v)) in rw (refused-worklist s {v = suc v} (sym e) (omega arith)) at few
+
+-- what reading the job answers and leaves
+module _ (s : List ℕ) {read : JobRead} (answers : read ≡ readJob s true) where
+  -- the numbers: the text that they are planned to, with the fronts of the two lists
+  pub numbers-wrote : {n : JobNumbers} → read ≡ Whole n → (vs es : List ℕ) → 192 ≤ length vs → 192 ≤ length es → {vs′ es′ : List ℕ}
+      → vs′ ≡ vertexList s true vs → es′ ≡ edgeList s true es → {xs ys : List ℕ} {r : ℕ}
+      → Wrote numbers xs ys 0 r (rightText (numbersPlanning n (take (3 * n .cells) vs′) (take (3 * n .cells) es′)))
+      → Wrote numbers xs ys 0 r (worklist s)
+  unfolding jobPlanning
+  numbers-wrote e vs es hv he ev ee w =
+      let said = read-numbers s true answers e in
+      let none = said .0 in
+      let small = limited-small s none in
+      let vertices = take-vertices s true none vs (omega arith) in
+      let edges = take-edges s true none es (omega arith) in
+      rw (planned-worklist s none) at (rw (said .1, ev, ee, vertices, edges) at w)
+
+  pub numbers-small : {n : JobNumbers} → read ≡ Whole n → n .cells ≤ 64
+  numbers-small e = let said = read-numbers s true answers e in rw (said .1) (limited-small s (said .0))
+
+  -- the refusal
+  pub refusal-line : {v : ℕ} → read ≡ Refused v → refusedLine v ≡ worklist s
+  refusal-line e = let said = read-refusal s true answers e in refused-worklist s (said .0) (said .1)
+
+-- ---- what the first 7 bytes decide
+
+-- they are refused: so is every input that they begin
+pub head-wrong-text : (s : List ℕ) {n : ℕ} → readHead (take 7 s) ≡ head.Refused n → refusedLine n ≡ worklist s
+head-wrong-text s e = let r = head-wrong s e in refused-worklist s (r .1 true) (omega (arith, r .0))
+
+-- they say more than 64 cells: the number of bytes gives the text
+pub head-large-text : (s : List ℕ) {C : ℕ} → readHead (take 7 s) ≡ head.Cells C → 64 < C → refusedLine (largeRefusal C (length s)) ≡ worklist s
+head-large-text s {C} e large = refused-worklist s (head-large s e large) (some (eqb (length s) (19 + 12 * C)))
+  where
+    some : (b : Bool) → 0 < cond b 13 12
+    some true = omega arith
+    some false = omega arith
+
+-- ---- how the text stands in the array
+
+pub printed : {xs ys : List ℕ} {r : ℕ} {rs : List ℕ} → Wrote numbers xs ys 0 r rs → length rs ≤ 49152 → 49152 ≤ length xs → Printed xs ys r rs
+printed {xs} {ys} {r} {rs} w h long =
+    let count : r ≡ length rs = omega (arith, w .cursor) in
+    record {
+      array = w .list ∙ sets-front xs rs (omega arith) ∙ ap (λ (k : ℕ). rs ++ drop k xs) (sym count);
+      count = count;
+      within = omega arith;
+    }
