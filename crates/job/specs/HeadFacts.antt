@@ -1,12 +1,12 @@
 -- What the first 7 bytes of a job decide, whatever follows: a program need not store more of it. Assumes nothing.
 use Prim.Native.Nat.{ℕ, _+_, _*_, _≤_, _<_}
 use native.Mathlib.Omega.{arith}
-use mathlib.Core.Path.{_≡_, refl, sym, _∙_}
+use mathlib.Core.Path.{_≡_, refl, sym, ap, _∙_}
 use mathlib.Core.Logic.{⊎-elim}
 use mathlib.Core.Bool.{Bool, true, false, _&&_, cond}
 use mathlib.Core.List.{List}
 use lib.ListN.{length, take, getD, length-take}
-use lib.Seq.{getD-take}
+use lib.Seq.{length-take-le, getD-take, take-take}
 use lib.Dec.{leb, eqb}
 use borrow.Author.Tests.{leb-true, leb-false, eqb-true, eqb-false, eq-eqb, ne-eqb, le-leb, lt-leb}
 use Rattle.lists.specs.Bool.{_and_, _or_, true≢false, cases, and-left, and-right, and-both, and-no-left, and-no-right, or-none}
@@ -113,3 +113,21 @@ head-large s {C} e large =
     go : (b : Bool) → jobRight s ≡ b → 64 < cellCount s → cond b 13 12 ≡ refusal (jobChecks s true)
     go true e many = sym (refusal-passes 12 _ _ e ∙ refusal-fails 13 _ _ (or-none _ _ (lt-leb _ _ many) refl))
     go false e many = sym (refusal-fails 12 _ _ e)
+
+-- they say C: one byte more than such a job has, and it is refused
+longer-fails : (s : List ℕ) (C : ℕ) → readHead s ≡ Cells C → 19 + 12 * C < length s → (limited : Bool) → 12 ≡ jobRefusal s limited
+unfolding readHead jobRefusal
+longer-fails s C e long limited =
+    let right = answer-cells (headRight s) (cellCount s) C e in
+    let more = rw (right .1) at long in
+    sym (refusal-fails 12 _ _ (sym (right-by-length s (right .0)) ∙ ne-eqb _ _ (λ (k : length s ≡ 19 + 12 * cellCount s). omega (arith, more))))
+
+-- so that it need not be read on: both what was read and the whole are refused
+pub head-longer : (s : List ℕ) {C : ℕ} → readHead (take 7 s) ≡ Cells C → 20 + 12 * C ≤ length s → (limited : Bool)
+    → (12 ≡ jobRefusal (take (20 + 12 * C) s) limited) × (12 ≡ jobRefusal s limited)
+head-longer s {C} e long limited =
+    let front = take (20 + 12 * C) s in
+    let same : readHead front ≡ Cells C = sym (head-alone front) ∙ ap readHead (take-take 7 (20 + 12 * C) s (omega arith)) ∙ e in (
+      longer-fails front C same (omega (arith, length-take-le (20 + 12 * C) s long)) limited,
+      longer-fails s C (sym (head-alone s) ∙ e) (omega arith) limited,
+    )

@@ -53,7 +53,7 @@ pub fn head_right(bytes: &[u8]) -> bool
     (version == 1) & (rest == 15 + 12 * cells)
 }
 
-// What the first 7 bytes say: `head-wrong` and `head-large` of specs/HeadFacts have what they decide.
+// What the first 7 bytes say: `head-wrong`, `head-large` and `head-longer` of specs/HeadFacts have what they decide.
 pub fn read_head(bytes: &[u8]) -> HeadRead
     ensures { λ r. ⌜ r ≡ readHead (now (bytes .entry)) ⌝ }
 {

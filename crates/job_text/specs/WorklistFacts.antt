@@ -3,9 +3,12 @@ use Prim.Native.Nat.{ℕ, zero, suc, _+_, _*_, _≤_, _<_}
 use native.Mathlib.Omega.{arith}
 use mathlib.Core.Path.{_≡_, refl, sym, ap, _∙_}
 use mathlib.Core.Bool.{Bool, true, false, cond}
+use mathlib.Core.Logic.{⊎-elim}
 use mathlib.Core.List.{List, _++_}
 use lib.ListN.{length, take, drop}
+use lib.Seq.{take-all}
 use lib.Dec.{eqb}
+use Rattle.lists.specs.Bounded.{lt-or-le}
 use Rattle.lists.specs.Refusals.{refusal-zero, refusal-passes, refusal-first}
 use Rattle.lists.specs.Stores.{sets-front}
 use Rattle.lists.specs.Writes.{numbers, Wrote}
@@ -17,7 +20,7 @@ use Rattle.job.specs.declared.HeadRead.the-variants as head
 use Rattle.job.specs.Job.{jobChecks, jobRefusal, readJob, vertexList, edgeList}
 use Rattle.job.specs.JobFacts.{read-numbers, read-refusal, limited-small, take-vertices, take-edges}
 use Rattle.job.specs.Head.{readHead, largeRefusal}
-use Rattle.job.specs.HeadFacts.{head-wrong, head-large}
+use Rattle.job.specs.HeadFacts.{head-wrong, head-large, head-longer}
 use Rattle.job_text.specs.Text.{refusedLine, numbersPlanning, jobPlanning, worklistRefusal, textAnswer, worklist}
 use Rattle.job_text.specs.TextFacts.{refused-short}
 use Rattle.job_text.specs.PlannedText.{answerText, plannedText, rightText, Printed}
@@ -97,6 +100,18 @@ head-large-text s {C} e large = refused-worklist s (head-large s e large) (some 
     some : (b : Bool) → 0 < cond b 13 12
     some true = omega arith
     some false = omega arith
+
+-- they say C: one byte more than such a job has is enough, whatever follows
+pub head-enough-text : (s : List ℕ) {C : ℕ} → readHead (take 7 s) ≡ head.Cells C → worklist (take (20 + 12 * C) s) ≡ worklist s
+head-enough-text s {C} e = ⊎-elim shorter longer (lt-or-le (length s) (20 + 12 * C))
+  where
+    shorter : length s < 20 + 12 * C → worklist (take (20 + 12 * C) s) ≡ worklist s
+    shorter h = ap worklist (take-all (20 + 12 * C) s (omega arith))
+
+    longer : 20 + 12 * C ≤ length s → worklist (take (20 + 12 * C) s) ≡ worklist s
+    longer h =
+        let r = head-longer s e h true in
+        sym (refused-worklist (take (20 + 12 * C) s) (r .0) (omega arith)) ∙ refused-worklist s (r .1) (omega arith)
 
 -- ---- how the text stands in the array
 
