@@ -291,11 +291,11 @@ counts-most x y e =
       leb-true y 64 (and-right (leb 1 y) (leb y 64) (and-right (leb 1 x and leb x 64) (leb 1 y and leb y 64) both)),
     )
 
--- what one bare term other than curl-curl reads of the kernel values
+-- what one term other than curl-curl reads of the kernel values
 pub plain-reads : (f : Integrand) (kind at : ℕ) (kernel : List Float) → kind ≡ plainKind f → (kind ≡ 3 → ⊥) → at + kernelWidth f ≤ length kernel
     → (at < length kernel) × (kind ≡ 1 → at + 4 ≤ length kernel) × (kind ≡ 2 → at + 4 ≤ length kernel)
 plain-reads f kind at kernel e h lent =
-    let first : kind ≡ kindOf (f .first) = e ∙ plain-first f (λ q. h (e ∙ q)) in
+    let first : kind ≡ kindOf (f .first) = e ∙ plain-first f (λ q. h (e ∙ q)) .1 in
     let reads = first-reads f {kernel = kernel} lent in
     (reads .first, λ q. reads .double (sym first ∙ q), λ q. reads .adjoint (sym first ∙ q))
 

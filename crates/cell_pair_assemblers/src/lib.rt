@@ -1,6 +1,7 @@
 // The local matrix of a pair of cells, touching or distant, and checks 9 to 11 of what it is made from.
 use integrands::Geometry;
 use integrands::Integrand;
+use integrands::Term;
 ghost use mathlib.Core.Path.{_≡_};
 ghost use Prim.Native.Nat.{ℕ, _+_, _*_, _<_, _≤_};
 ghost use lib.ListN.{length};
@@ -12,7 +13,7 @@ ghost use Rattle.integrands.specs.Floats.{_⊕_, _⊗_, _!_};
 ghost use Rattle.integrands.specs.Terms.{kernelWidth, tableRows};
 ghost use Rattle.integrands.specs.Values.{geometryAt};
 ghost use Rattle.integrands.specs.Columns.{tableRow, Table, Held, Added};
-ghost use Rattle.integrands.specs.ValueFacts.{plainKind};
+ghost use Rattle.integrands.specs.ValueFacts.{plainKind, factored};
 ghost use Rattle.cell_pair_assemblers.specs.Lent.{jdetsAbove0, touchingLengths, touchingNumbers, touchingChecks, distantLengths, distantNumbers, distantChecks};
 ghost use Rattle.cell_pair_assemblers.specs.Facts.{touching, distant, TouchingFits, DistantFits, TouchingEntries, DistantEntries, touchingSum, distantRows, distantSum};
 
@@ -510,21 +511,31 @@ fn distant_general(
     }
 }
 
-// ---- one bare term other than curl-curl: no values are kept, c·t·r goes into the sums at once
+// ---- one term other than curl-curl: no values are kept, c·t·r goes into the sums at once
 
-// One column: entry + c·t·r·w.
-fn add_column(entries: &mut [f64; 100], dim: usize, j: usize, scaled: &[f64; 10], r: f64, w: f64)
+// One column: entry + c·t·r·w, with the term's factor before it.
+fn add_column(
+    entries: &mut [f64; 100],
+    dim: usize,
+    j: usize,
+    term: Term,
+    scaled: &[f64; 10],
+    r: f64,
+    w: f64,
+)
     requires { ⌜ (length (now entries) ≡ 100) × (dim ≤ 10) × (j < 10) ⌝ }
-    ensures { λ _. ⌜ Mapped nan (dim * j) dim (λ (i : ℕ) (x : Float). x ⊕ now (scaled .entry) ! i ⊗ r ⊗ w) (now (entries .entry)) (now (entries .exit)) ⌝ }
+    ensures { λ _. ⌜ Mapped nan (dim * j) dim (λ (i : ℕ) (x : Float). x ⊕ factored term (now (scaled .entry) ! i ⊗ r) ⊗ w) (now (entries .entry)) (now (entries .exit)) ⌝ }
 {
     for i in 0..dim {
-        entries[i + dim * j] = entries[i + dim * j] + scaled[i] * r * w;
+        let value = integrands::factored(term, scaled[i] * r);
+        entries[i + dim * j] = entries[i + dim * j] + value * w;
     }
 }
 
-// entry + c·t·r·w, of each entry.
+// entry + c·t·r·w, with the term's factor before it, of each entry.
 fn add_outer(
     entries: &mut [f64; 100],
+    term: Term,
     c: f64,
     w: f64,
     rows: usize,
@@ -539,19 +550,20 @@ fn add_outer(
 )
     requires { ⌜ (length (now entries) ≡ 100) × Table rows «test_points» p «test_dim» (now «test_table») × Table rows «trial_points» q «trial_dim» (now «trial_table») ⌝ }
     ensures { λ _. ⌜ Added «test_dim» «trial_dim» (now (entries .entry)) (now (entries .exit)) (λ (i j : ℕ).
-        c ⊗ tableRow (now («test_table» .entry)) rows «test_points» p i 0 ⊗ tableRow (now («trial_table» .entry)) rows «trial_points» q j 0 ⊗ w) ⌝ }
+        factored term (c ⊗ tableRow (now («test_table» .entry)) rows «test_points» p i 0 ⊗ tableRow (now («trial_table» .entry)) rows «trial_points» q j 0) ⊗ w) ⌝ }
 {
     let mut scaled = [0.0; 10];
     integrands::scaled_rows(&mut scaled, c, test_table, rows, test_points, p, test_dim);
     for j in 0..trial_dim {
         let r = integrands::table_value(trial_table, rows, trial_points, q, j, 0);
-        add_column(entries, test_dim, j, &scaled, r, w);
+        add_column(entries, test_dim, j, term, &scaled, r, w);
     }
 }
 
 // As `add_outer`, for three basis functions on either side: the compiler knows the bounds.
 fn add_outer_3(
     entries: &mut [f64; 100],
+    term: Term,
     c: f64,
     w: f64,
     rows: usize,
@@ -564,13 +576,13 @@ fn add_outer_3(
 )
     requires { ⌜ (length (now entries) ≡ 100) × Table rows «test_points» p 3 (now «test_table») × Table rows «trial_points» q 3 (now «trial_table») ⌝ }
     ensures { λ _. ⌜ Added 3 3 (now (entries .entry)) (now (entries .exit)) (λ (i j : ℕ).
-        c ⊗ tableRow (now («test_table» .entry)) rows «test_points» p i 0 ⊗ tableRow (now («trial_table» .entry)) rows «trial_points» q j 0 ⊗ w) ⌝ }
+        factored term (c ⊗ tableRow (now («test_table» .entry)) rows «test_points» p i 0 ⊗ tableRow (now («trial_table» .entry)) rows «trial_points» q j 0) ⊗ w) ⌝ }
 {
     let mut scaled = [0.0; 10];
     integrands::scaled_rows(&mut scaled, c, test_table, rows, test_points, p, 3);
     for j in 0..3 {
         let r = integrands::table_value(trial_table, rows, trial_points, q, j, 0);
-        add_column(entries, 3, j, &scaled, r, w);
+        add_column(entries, 3, j, term, &scaled, r, w);
     }
 }
 
@@ -599,11 +611,13 @@ fn touching_plain_point(
 {
     let test = integrands::geometry_at(test_geometry, q);
     let trial = integrands::geometry_at(trial_geometry, q);
+    let first = f.first;
     let c = integrands::coefficient(kind, kernel, width * q, test, trial);
     let weight = weights[q] * (test.jdet * trial.jdet);
     if (test_dim == 3) & (trial_dim == 3) {
         add_outer_3(
             entries,
+            first,
             c,
             weight,
             rows,
@@ -617,6 +631,7 @@ fn touching_plain_point(
     } else {
         add_outer(
             entries,
+            first,
             c,
             weight,
             rows,
@@ -677,27 +692,30 @@ fn touching_plain(
     }
 }
 
-// One column: entry + c·t·r·w·v.
+// One column: entry + c·t·r·w·v, with the term's factor before it.
 fn add_column_twice(
     entries: &mut [f64; 100],
     dim: usize,
     j: usize,
+    term: Term,
     scaled: &[f64; 10],
     r: f64,
     w: f64,
     v: f64,
 )
     requires { ⌜ (length (now entries) ≡ 100) × (dim ≤ 10) × (j < 10) ⌝ }
-    ensures { λ _. ⌜ Mapped nan (dim * j) dim (λ (i : ℕ) (x : Float). x ⊕ now (scaled .entry) ! i ⊗ r ⊗ w ⊗ v) (now (entries .entry)) (now (entries .exit)) ⌝ }
+    ensures { λ _. ⌜ Mapped nan (dim * j) dim (λ (i : ℕ) (x : Float). x ⊕ factored term (now (scaled .entry) ! i ⊗ r) ⊗ w ⊗ v) (now (entries .entry)) (now (entries .exit)) ⌝ }
 {
     for i in 0..dim {
-        entries[i + dim * j] = entries[i + dim * j] + scaled[i] * r * w * v;
+        let value = integrands::factored(term, scaled[i] * r);
+        entries[i + dim * j] = entries[i + dim * j] + value * w * v;
     }
 }
 
-// entry + c·t·r·w·v, of each entry.
+// entry + c·t·r·w·v, with the term's factor before it, of each entry.
 fn add_outer_twice(
     entries: &mut [f64; 100],
+    term: Term,
     c: f64,
     w: f64,
     v: f64,
@@ -713,19 +731,20 @@ fn add_outer_twice(
 )
     requires { ⌜ (length (now entries) ≡ 100) × Table rows «test_points» p «test_dim» (now «test_table») × Table rows «trial_points» q «trial_dim» (now «trial_table») ⌝ }
     ensures { λ _. ⌜ Added «test_dim» «trial_dim» (now (entries .entry)) (now (entries .exit)) (λ (i j : ℕ).
-        c ⊗ tableRow (now («test_table» .entry)) rows «test_points» p i 0 ⊗ tableRow (now («trial_table» .entry)) rows «trial_points» q j 0 ⊗ w ⊗ v) ⌝ }
+        factored term (c ⊗ tableRow (now («test_table» .entry)) rows «test_points» p i 0 ⊗ tableRow (now («trial_table» .entry)) rows «trial_points» q j 0) ⊗ w ⊗ v) ⌝ }
 {
     let mut scaled = [0.0; 10];
     integrands::scaled_rows(&mut scaled, c, test_table, rows, test_points, p, test_dim);
     for j in 0..trial_dim {
         let r = integrands::table_value(trial_table, rows, trial_points, q, j, 0);
-        add_column_twice(entries, test_dim, j, &scaled, r, w, v);
+        add_column_twice(entries, test_dim, j, term, &scaled, r, w, v);
     }
 }
 
 // As `add_outer_twice`, for three basis functions on either side: the compiler knows the bounds.
 fn add_outer_twice_3(
     entries: &mut [f64; 100],
+    term: Term,
     c: f64,
     w: f64,
     v: f64,
@@ -739,13 +758,13 @@ fn add_outer_twice_3(
 )
     requires { ⌜ (length (now entries) ≡ 100) × Table rows «test_points» p 3 (now «test_table») × Table rows «trial_points» q 3 (now «trial_table») ⌝ }
     ensures { λ _. ⌜ Added 3 3 (now (entries .entry)) (now (entries .exit)) (λ (i j : ℕ).
-        c ⊗ tableRow (now («test_table» .entry)) rows «test_points» p i 0 ⊗ tableRow (now («trial_table» .entry)) rows «trial_points» q j 0 ⊗ w ⊗ v) ⌝ }
+        factored term (c ⊗ tableRow (now («test_table» .entry)) rows «test_points» p i 0 ⊗ tableRow (now («trial_table» .entry)) rows «trial_points» q j 0) ⊗ w ⊗ v) ⌝ }
 {
     let mut scaled = [0.0; 10];
     integrands::scaled_rows(&mut scaled, c, test_table, rows, test_points, p, 3);
     for j in 0..3 {
         let r = integrands::table_value(trial_table, rows, trial_points, q, j, 0);
-        add_column_twice(entries, 3, j, &scaled, r, w, v);
+        add_column_twice(entries, 3, j, term, &scaled, r, w, v);
     }
 }
 
@@ -779,11 +798,13 @@ fn distant_plain_point(
     ensures { λ _. ⌜ Held «test_dim» «trial_dim» (now (entries .exit)) (λ (i j : ℕ). distantSum f (distant «test_points» «trial_points» (now («test_weights» .entry)) (now («trial_weights» .entry)) (now («test_table» .entry)) (now («trial_table» .entry)) (now («kernel» .entry)) (now («test_geometry» .entry)) (now («trial_geometry» .entry))) i j t (r + 1)) ⌝ }
 {
     let trial = integrands::geometry_at(trial_geometry, r);
+    let first = f.first;
     let c = integrands::coefficient(kind, kernel, width * (t + test_points * r), test, trial);
     let w = trial_weights[r] * trial.jdet;
     if (test_dim == 3) & (trial_dim == 3) {
         add_outer_twice_3(
             entries,
+            first,
             c,
             w,
             v,
@@ -798,6 +819,7 @@ fn distant_plain_point(
     } else {
         add_outer_twice(
             entries,
+            first,
             c,
             w,
             v,

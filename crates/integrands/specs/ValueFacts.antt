@@ -60,48 +60,46 @@ module _ (f : Integrand) (k t r : ℕ → Float) (test trial : Geometry) where
 pub second-is-read : (f : Integrand) → (f .terms ≡ 1 → ⊥) → secondRead f ≡ true
 second-is-read f h = rw (ne-eqb (f .terms) 1 h)
 
--- ---- one bare term
+-- ---- one term other than curl-curl
 
-abbrev pub bareKind : Term → ℕ
-bareKind (Bare kind) = kind
-bareKind (Scaled factor kind) = 3
+-- a factor, where there is one
+unfoldable pub factored : Term → Float → Float
+factored (Bare kind) x = x
+factored (Scaled factor kind) x = factor ⊗ x
 
--- its kind; 3 of any other integrand
+pub term-factored : (x : Term) (k t r : ℕ → Float) (test trial : Geometry) → factored x (kindValue (kindOf x) k t r test trial) ≡ termValue x k t r test trial
+unfolding factored termValue
+term-factored (Bare kind) k t r test trial = refl
+term-factored (Scaled factor kind) k t r test trial = refl
+
+-- the kind of one term; 3 of two
 unfoldable pub plainKind : Integrand → ℕ
-plainKind f = cond (secondRead f) 3 (bareKind (f .first))
+plainKind f = cond (secondRead f) 3 (kindOf (f .first))
 
 pub plain-two : (f : Integrand) → (f .terms ≡ 1 → ⊥) → 3 ≡ plainKind f
 unfolding plainKind
 plain-two f h = rw (ne-eqb (f .terms) 1 h)
 
-pub plain-bare : (f : Integrand) (kind : ℕ) → f .terms ≡ 1 → f .first ≡ Bare kind → kind ≡ plainKind f
+pub plain-one : (f : Integrand) {kind : ℕ} → f .terms ≡ 1 → kind ≡ kindOf (f .first) → kind ≡ plainKind f
 unfolding plainKind
-plain-bare f kind h e = rw (eq-eqb (f .terms) 1 h, e)
+plain-one f h e = rw (eq-eqb (f .terms) 1 h) e
 
-pub plain-scaled : (f : Integrand) (factor : Float) (kind : ℕ) → f .terms ≡ 1 → f .first ≡ Scaled factor kind → 3 ≡ plainKind f
+plain-kind-go : (b : Bool) (kind : ℕ) → (cond b 3 kind ≡ 3 → ⊥) → (b ≡ false) × (cond b 3 kind ≡ kind)
+plain-kind-go true kind h = absurd (h refl)
+plain-kind-go false kind h = (refl, refl)
+
+-- it is the kind of the first term, the only one that is read
+pub plain-first : (f : Integrand) → (plainKind f ≡ 3 → ⊥) → (secondRead f ≡ false) × (plainKind f ≡ kindOf (f .first))
 unfolding plainKind
-plain-scaled f factor kind h e = rw (eq-eqb (f .terms) 1 h, e)
-
-plain-kind-go : (b : Bool) (x : Term) → (cond b 3 (bareKind x) ≡ 3 → ⊥) → cond b 3 (bareKind x) ≡ kindOf x
-plain-kind-go true x h = absurd (h refl)
-plain-kind-go false (Bare kind) h = refl
-plain-kind-go false (Scaled factor kind) h = absurd (h refl)
-
--- it is the kind of the first term
-pub plain-first : (f : Integrand) → (plainKind f ≡ 3 → ⊥) → plainKind f ≡ kindOf (f .first)
-unfolding plainKind
-plain-first f h = plain-kind-go (secondRead f) (f .first) h
+plain-first f h = plain-kind-go (secondRead f) (kindOf (f .first)) h
 
 module _ (k t r : ℕ → Float) (test trial : Geometry) where
-  plain-value-go : (b : Bool) (x : Term) (y : Float) → (cond b 3 (bareKind x) ≡ 3 → ⊥)
-      → coefficient (cond b 3 (bareKind x)) k test trial ⊗ t 0 ⊗ r 0 ≡ cond b (termValue x k t r test trial ⊕ y) (termValue x k t r test trial)
-  unfolding termValue
-  plain-value-go true x y h = absurd (h refl)
-  plain-value-go false (Bare kind) y h = outer-value kind k t r test trial h
-  plain-value-go false (Scaled factor kind) y h = absurd (h refl)
-
-  pub plain-value : (f : Integrand) (kind : ℕ) {c : Float} → kind ≡ plainKind f → (kind ≡ 3 → ⊥) → c ≡ coefficient kind k test trial → c ⊗ t 0 ⊗ r 0 ≡ pointValue f k t r test trial
-  unfolding plainKind pointValue
+  pub plain-value : (f : Integrand) (kind : ℕ) {c : Float} → kind ≡ plainKind f → (kind ≡ 3 → ⊥) → c ≡ coefficient kind k test trial
+      → factored (f .first) (c ⊗ t 0 ⊗ r 0) ≡ pointValue f k t r test trial
+  unfolding pointValue
   plain-value f kind e h ec =
-      ap (λ (x : Float). x ⊗ t 0 ⊗ r 0) (ec ∙ ap (λ (n : ℕ). coefficient n k test trial) e)
-      ∙ plain-value-go (secondRead f) (f .first) (termValue (f .second) k t r test trial) (λ q. h (e ∙ q))
+      let one = plain-first f (λ q. h (e ∙ q)) in
+      let first : kind ≡ kindOf (f .first) = e ∙ one .1 in
+      ap (factored (f .first)) (kind-outer kind k t r test trial ec h ∙ ap (λ (n : ℕ). kindValue n k t r test trial) first)
+      ∙ term-factored (f .first) k t r test trial
+      ∙ rw (one .0) refl

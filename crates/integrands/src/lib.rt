@@ -9,7 +9,7 @@ ghost use Rattle.integrands.specs.Floats.{_⊕_, _⊖_, _⊗_, _⊘_, _!
 ghost use Rattle.integrands.specs.Terms.{kindOf, termRight, integrandRight, kernelWidth, tableRows};
 ghost use Rattle.integrands.specs.Values.{geometryAt, alongNormal, curl, curlCurl, kindValue, termValue, pointValue};
 ghost use Rattle.integrands.specs.Columns.{tableRow, Reach, Table, Held, Reads};
-ghost use Rattle.integrands.specs.ValueFacts.{coefficient, plainKind};
+ghost use Rattle.integrands.specs.ValueFacts.{coefficient, plainKind, factored};
 
 // A term: its kind, 0 to 4, alone or with a factor.
 pub enum Term {
@@ -38,12 +38,11 @@ pub struct Geometry {
     pub j5: f64,
 }
 
-// Neither infinite nor a NaN: every comparison with a NaN is false.
+// Neither infinite nor a NaN: of these x − x is a NaN, which equals nothing.
 pub fn is_finite(x: f64) -> bool
     ensures { λ r. ⌜ r ≡ finite x ⌝ }
 {
-    let infinity = 1.0 / 0.0;
-    (-infinity < x) & (x < infinity)
+    x - x == 0.0
 }
 
 // Whether each number of the list is finite. All are read, whatever the first is.
@@ -413,7 +412,7 @@ fn kind_values(
     }
 }
 
-// The kind of an integrand that is one bare term; 3 of any other.
+// The kind of an integrand that is one term; 3 of any other.
 pub fn plain_kind(f: Integrand) -> u32
     ensures { λ r. ⌜ r ≡ plainKind f ⌝ }
 {
@@ -421,9 +420,16 @@ pub fn plain_kind(f: Integrand) -> u32
         return 3;
     }
     let first = f.first;
-    match first {
-        Term::Bare(kind) => kind,
-        Term::Scaled(_, _) => 3,
+    kind_of(first)
+}
+
+// A term's factor, from the left, where it has one.
+pub fn factored(term: Term, x: f64) -> f64
+    ensures { λ r. ⌜ r ≡ factored term x ⌝ }
+{
+    match term {
+        Term::Bare(_) => x,
+        Term::Scaled(factor, _) => factor * x,
     }
 }
 

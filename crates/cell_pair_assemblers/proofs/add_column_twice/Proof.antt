@@ -6,49 +6,53 @@ use lib.Ieee.{Float, nan}
 use Rattle.lists.specs.Maps.{Mapped, mapped-start, mapped-turn}
 use lib.Ieee as Ieee
 use Rattle.integrands.specs.Floats.{_⊕_, _⊗_, _!_}
+use Rattle.integrands.specs.ValueFacts.{factored}
 use Rattle.integrands.specs.Columns.{hundred-place}
 use borrow.Author.Needs.{needs}
 use Rattle.cell_pair_assemblers.proofs.add_column_twice.Statement.{statement}
 use Rattle.cell_pair_assemblers.proofs.add_column_twice.Tie as tie
 
 abbrev Inv-loop : tie.InvT-loop
-Inv-loop entries₀ dim j scaled r w v i₀ entries i = (i ≤ dim) × Mapped nan (dim * j) i (λ (k : ℕ) (x : Float). x ⊕ scaled ! k ⊗ r ⊗ w ⊗ v) entries₀ entries
+Inv-loop entries₀ dim j term scaled r w v i₀ entries i = (i ≤ dim) × Mapped nan (dim * j) i (λ (k : ℕ) (x : Float). x ⊕ factored term (scaled ! k ⊗ r) ⊗ w ⊗ v) entries₀ entries
 
 abbrev μ-loop : tie.MeasureT-loop
-μ-loop entries₀ dim j scaled r w v i₀ entries i = dim - i
+μ-loop entries₀ dim j term scaled r w v i₀ entries i = dim - i
 
 loop-holds : tie.Need-loop-holds Inv-loop μ-loop
 loop-holds c = (search needs, mapped-start _)
 
+mul-factored : tie.Need-mul-factored Inv-loop μ-loop
+mul-factored c = search needs
+
+element-copy-out-factored : tie.Need-element-copy-out-factored Inv-loop μ-loop
+element-copy-out-factored c = search needs
+
+factored-requires : tie.Need-factored-requires Inv-loop μ-loop
+factored-requires c κs = search needs
+
 mul-entries : tie.Need-mul-entries Inv-loop μ-loop
-mul-entries c = omega (arith, hundred-place (c .before .before .args .dim) (c .before .loop .i) (c .before .before .args .j) (omega arith) (omega arith) (omega arith))
+mul-entries c = omega (arith, hundred-place (c .before .before .before .before .args .dim) (c .before .before .before .loop .i) (c .before .before .before .before .args .j) (omega arith) (omega arith) (omega arith))
 
 add-entries : tie.Need-add-entries Inv-loop μ-loop
-add-entries c = omega (arith, hundred-place (c .before .before .args .dim) (c .before .loop .i) (c .before .before .args .j) (omega arith) (omega arith) (omega arith))
+add-entries c = omega (arith, hundred-place (c .before .before .before .before .args .dim) (c .before .before .before .loop .i) (c .before .before .before .before .args .j) (omega arith) (omega arith) (omega arith))
 
 mul-entries-2 : tie.Need-mul-entries-2 Inv-loop μ-loop
-mul-entries-2 c = omega (arith, hundred-place (c .before .before .args .dim) (c .before .loop .i) (c .before .before .args .j) (omega arith) (omega arith) (omega arith))
+mul-entries-2 c = omega (arith, hundred-place (c .before .before .before .before .args .dim) (c .before .before .before .loop .i) (c .before .before .before .before .args .j) (omega arith) (omega arith) (omega arith))
 
 element-copy-out-entries : tie.Need-element-copy-out-entries Inv-loop μ-loop
-element-copy-out-entries c = omega (arith, hundred-place (c .before .before .args .dim) (c .before .loop .i) (c .before .before .args .j) (omega arith) (omega arith) (omega arith))
+element-copy-out-entries c = omega (arith, hundred-place (c .before .before .before .before .args .dim) (c .before .before .before .loop .i) (c .before .before .before .before .args .j) (omega arith) (omega arith) (omega arith))
 
 mul-entries-3 : tie.Need-mul-entries-3 Inv-loop μ-loop
-mul-entries-3 c = search needs
-
-element-copy-out-entries-2 : tie.Need-element-copy-out-entries-2 Inv-loop μ-loop
-element-copy-out-entries-2 c = search needs
-
-mul-entries-4 : tie.Need-mul-entries-4 Inv-loop μ-loop
-mul-entries-4 c = omega (arith, hundred-place (c .before .before .before .before .args .dim) (c .before .before .before .loop .i) (c .before .before .before .before .args .j) (omega arith) (omega arith) (omega arith))
+mul-entries-3 c = omega (arith, hundred-place (c .before .before .before .before .before .args .dim) (c .before .before .before .before .loop .i) (c .before .before .before .before .before .args .j) (omega arith) (omega arith) (omega arith))
 
 add-entries-2 : tie.Need-add-entries-2 Inv-loop μ-loop
-add-entries-2 c = omega (arith, hundred-place (c .before .before .before .before .args .dim) (c .before .before .before .loop .i) (c .before .before .before .before .args .j) (omega arith) (omega arith) (omega arith))
+add-entries-2 c = omega (arith, hundred-place (c .before .before .before .before .before .args .dim) (c .before .before .before .before .loop .i) (c .before .before .before .before .before .args .j) (omega arith) (omega arith) (omega arith))
 
-mul-entries-5 : tie.Need-mul-entries-5 Inv-loop μ-loop
-mul-entries-5 c = omega (arith, hundred-place (c .before .before .before .before .args .dim) (c .before .before .before .loop .i) (c .before .before .before .before .args .j) (omega arith) (omega arith) (omega arith))
+mul-entries-4 : tie.Need-mul-entries-4 Inv-loop μ-loop
+mul-entries-4 c = omega (arith, hundred-place (c .before .before .before .before .before .args .dim) (c .before .before .before .before .loop .i) (c .before .before .before .before .before .args .j) (omega arith) (omega arith) (omega arith))
 
 element-write-entries : tie.Need-element-write-entries Inv-loop μ-loop
-element-write-entries c = omega (arith, hundred-place (c .before .before .before .before .args .dim) (c .before .before .before .loop .i) (c .before .before .before .before .args .j) (omega arith) (omega arith) (omega arith))
+element-write-entries c = omega (arith, hundred-place (c .before .before .before .before .before .args .dim) (c .before .before .before .before .loop .i) (c .before .before .before .before .before .args .j) (omega arith) (omega arith) (omega arith))
 
 add-i : tie.Need-add-i Inv-loop μ-loop
 add-i c = search needs
@@ -57,7 +61,7 @@ loop-less : tie.Need-loop-less Inv-loop μ-loop
 loop-less c = search needs
 
 loop-again : tie.Need-loop-again Inv-loop μ-loop
-loop-again c = (search needs, mapped-turn (c .before .before .before .loop .inv .1) (omega arith) (omega (arith, hundred-place (c .before .before .before .before .args .dim) (c .before .before .before .loop .i) (c .before .before .before .before .args .j) (omega arith) (omega arith) (omega arith))) refl)
+loop-again c = (search needs, mapped-turn (c .before .before .before .before .loop .inv .1) (omega arith) (omega (arith, hundred-place (c .before .before .before .before .before .args .dim) (c .before .before .before .before .loop .i) (c .before .before .before .before .before .args .j) (omega arith) (omega arith) (omega arith))) (rw (c .before .factored .ensures) refl))
 
 returns : tie.Need-returns Inv-loop μ-loop
 returns c =
@@ -71,15 +75,16 @@ add-column-twice-spec =
     Inv-loop
     μ-loop
     loop-holds
+    mul-factored
+    element-copy-out-factored
+    factored-requires
     mul-entries
     add-entries
     mul-entries-2
     element-copy-out-entries
     mul-entries-3
-    element-copy-out-entries-2
-    mul-entries-4
     add-entries-2
-    mul-entries-5
+    mul-entries-4
     element-write-entries
     add-i
     loop-less

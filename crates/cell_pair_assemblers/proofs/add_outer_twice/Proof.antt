@@ -8,18 +8,19 @@ use lib.Ieee.{Float}
 use Rattle.lists.specs.Maps.{mapped-at}
 use lib.Ieee as Ieee
 use Rattle.integrands.specs.Floats.{0·0, _⊕_, _⊗_}
+use Rattle.integrands.specs.ValueFacts.{factored}
 use Rattle.integrands.specs.Columns.{tableRow, table-reach, Added, added-none, added-turn}
 use borrow.Author.Needs.{needs}
 use Rattle.cell_pair_assemblers.proofs.add_outer_twice.Statement.{statement}
 use Rattle.cell_pair_assemblers.proofs.add_outer_twice.Tie as tie
 
 abbrev Inv-loop : tie.InvT-loop
-Inv-loop entries₀ c w v rows test-table test-points p test-dim trial-table trial-points q trial-dim scaled j₀ entries j =
+Inv-loop entries₀ term c w v rows test-table test-points p test-dim trial-table trial-points q trial-dim scaled j₀ entries j =
     (j ≤ trial-dim)
-    × Added test-dim j entries₀ entries (λ (i k : ℕ). c ⊗ tableRow test-table rows test-points p i 0 ⊗ tableRow trial-table rows trial-points q k 0 ⊗ w ⊗ v)
+    × Added test-dim j entries₀ entries (λ (i k : ℕ). factored term (c ⊗ tableRow test-table rows test-points p i 0 ⊗ tableRow trial-table rows trial-points q k 0) ⊗ w ⊗ v)
 
 abbrev μ-loop : tie.MeasureT-loop
-μ-loop entries₀ c w v rows test-table test-points p test-dim trial-table trial-points q trial-dim scaled j₀ entries j = trial-dim - j
+μ-loop entries₀ term c w v rows test-table test-points p test-dim trial-table trial-points q trial-dim scaled j₀ entries j = trial-dim - j
 
 scaled-rows-requires : tie.Need-scaled-rows-requires Inv-loop μ-loop
 scaled-rows-requires c κs = (length-replicate {A = Float} 10 0·0, c .before .before .before .pre .1)
@@ -46,7 +47,7 @@ loop-again c =
     let read = c .before .before .before .table-value .ensures in (
       search needs,
       added-turn (c .before .before .before .before .before .loop .inv .1) (c .add-column-twice .ensures)
-          (λ i x l. ap (λ (y : Float). x ⊕ y) (ap (λ (y : Float). y ⊗ start .args .w ⊗ start .args .v) (ap₂ _⊗_ (mapped-at scaled i i l (sym (zero-add i))) read))),
+          (λ i x l. ap (λ (y : Float). x ⊕ y) (ap (λ (y : Float). factored (start .args .term) y ⊗ start .args .w ⊗ start .args .v) (ap₂ _⊗_ (mapped-at scaled i i l (sym (zero-add i))) read))),
     )
 
 returns : tie.Need-returns Inv-loop μ-loop

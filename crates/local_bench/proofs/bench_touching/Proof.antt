@@ -1,0 +1,56 @@
+-- `local_bench::bench_touching` is safe: a pair that is not refused fits. Assumes nothing.
+use mathlib.Core.Path.{sym, _∙_}
+use native.Mathlib.Omega.{arith}
+use Rattle.integrands.specs.Columns.{hundred}
+use Rattle.cell_pair_assemblers.specs.Facts.{touching-fits}
+use Rattle.local_bench.specs.Facts.{few}
+use borrow.Author.Needs.{needs}
+use Rattle.local_bench.proofs.bench_touching.Statement.{statement}
+use Rattle.local_bench.proofs.bench_touching.Tie as tie
+use Rattle.local_bench.proofs.bench_touching.Reads as reads
+use Rattle.local_bench.proofs.bench_touching.Lts as lts
+use Rattle.cell_pair_assemblers.proofs.touching_matrix.Reads as touching-matrix-reads
+use Rattle.cell_pair_assemblers.proofs.touching_refusal.Reads as touching-refusal-reads
+use Rattle.local_bench.proofs.copy.Reads as copy-reads
+use Rattle.local_bench.proofs.term.Reads as term-reads
+
+returns : tie.Need-returns
+returns c = search needs
+
+term-requires : tie.Need-term-requires
+term-requires c κs = search needs
+
+term-requires-2 : tie.Need-term-requires-2
+term-requires-2 c κs = search needs
+
+touching-refusal-requires : tie.Need-touching-refusal-requires
+touching-refusal-requires c κs = few (c .before .before .before .before .before .before .before .before .before .args .m) (c .before .before .before .before .before .before .before .before .before .args .n) (c .before .before .if1 .left)
+
+returns-2 : tie.Need-returns-2
+returns-2 c = search needs
+
+touching-matrix-requires : tie.Need-touching-matrix-requires
+touching-matrix-requires c κs = touching-fits _ _ _ _ (few (c .before .before .before .before .before .before .before .before .before .before .before .args .m) (c .before .before .before .before .before .before .before .before .before .before .before .args .n) (c .before .before .before .before .if1 .left) .0) (few (c .before .before .before .before .before .before .before .before .before .before .before .args .m) (c .before .before .before .before .before .before .before .before .before .before .before .args .n) (c .before .before .before .before .if1 .left) .1) (sym (c .before .touching-refusal .ensures) ∙ c .if2 .left)
+
+mul-copy : tie.Need-mul-copy
+mul-copy c = omega (arith, hundred (c .before .before .before .before .before .before .before .before .before .before .before .before .before .before .before .args .m) (c .before .before .before .before .before .before .before .before .before .before .before .before .before .before .before .args .n) (few (c .before .before .before .before .before .before .before .before .before .before .before .before .before .before .before .args .m) (c .before .before .before .before .before .before .before .before .before .before .before .before .before .before .before .args .n) (c .before .before .before .before .before .before .before .before .if1 .left) .0) (few (c .before .before .before .before .before .before .before .before .before .before .before .before .before .before .before .args .m) (c .before .before .before .before .before .before .before .before .before .before .before .before .before .before .before .args .n) (c .before .before .before .before .before .before .before .before .if1 .left) .1))
+
+copy-requires : tie.Need-copy-requires
+copy-requires c κs = hundred (c .before .before .before .before .before .before .before .before .before .before .before .before .before .before .before .args .m) (c .before .before .before .before .before .before .before .before .before .before .before .before .before .before .before .args .n) (few (c .before .before .before .before .before .before .before .before .before .before .before .before .before .before .before .args .m) (c .before .before .before .before .before .before .before .before .before .before .before .before .before .before .before .args .n) (c .before .before .before .before .before .before .before .before .if1 .left) .0) (few (c .before .before .before .before .before .before .before .before .before .before .before .before .before .before .before .args .m) (c .before .before .before .before .before .before .before .before .before .before .before .before .before .before .before .args .n) (c .before .before .before .before .before .before .before .before .if1 .left) .1)
+
+returns-3 : tie.Need-returns-3
+returns-3 c = search needs
+
+pub bench-touching-spec : {M : Type 1} → statement M
+bench-touching-spec =
+    tie.close
+    (tie.spec
+    returns
+    term-requires
+    term-requires-2
+    touching-refusal-requires
+    returns-2
+    touching-matrix-requires
+    mul-copy
+    copy-requires
+    returns-3)
