@@ -3,7 +3,7 @@ use Prim.Native.Nat.{ℕ, _+_, _*_, _<_, _≤_}
 use native.Mathlib.Nat.{mul-le-mul-left, mul-le-mul-right}
 use native.Mathlib.Omega.{arith}
 use mathlib.Core.Bool.{true, false, not, _&&_}
-use mathlib.Core.Path.{_≡_, refl, sym, _∙_}
+use mathlib.Core.Path.{_≡_, refl, sym, subst, _∙_, ap}
 use mathlib.Core.List.{List}
 use lib.ListN.{length, replicate, length-replicate, getD-replicate}
 use lib.Dec.{leb, eqb}
@@ -15,14 +15,37 @@ use Rattle.lists.specs.Places.{in-row, in-rectangle}
 use Rattle.lists.specs.Refusals.{refusal, refusal-zero}
 use Rattle.integrands.specs.declared.Integrand.{Integrand}
 use Rattle.integrands.specs.declared.Geometry.{Geometry}
+use Rattle.integrands.specs.declared.Side.{Side}
+use Rattle.integrands.specs.declared.Term.{Term}
 use Rattle.integrands.specs.Floats.{0·0, _⊕_, _⊗_, _!_}
 use Rattle.integrands.specs.Terms.{kindOf, kernelWidth, tableRows}
-use Rattle.integrands.specs.ValueFacts.{plainKind, plain-first}
-use Rattle.integrands.specs.Values.{geometryAt, pointValue}
+use Rattle.integrands.specs.ValueFacts.{plainKind, plain-first, coefficient, factored, fromSides, TestSide, TrialSide, term-from}
+use Rattle.integrands.specs.Values.{geometryAt, termValue, pointValue}
 use Rattle.integrands.specs.Columns.{Added, Held, Table, rows-some, width-some, hundred-place, first-reads}
 use Rattle.cell_pair_assemblers.specs.declared.LocalMatrix.{LocalMatrix}
+use Rattle.cell_pair_assemblers.specs.declared.Weight.{Weight}
+use Rattle.cell_pair_assemblers.specs.declared.Weight.the-variants.{Once, Twice}
 use Rattle.cell_pair_assemblers.specs.Lent.{Touching, Distant, touchingCount, touchingLengths, touchingChecks, distantCounts, distantLengths, distantChecks}
 use Rattle.cell_pair_assemblers.specs.Entries.{rowsAt, touchingValue, touchingSummand, touchingEntry, distantValue, distantSummand, distantEntry}
+
+-- value·w, or value·w·v
+unfoldable pub weighed : Weight → Float → Float
+weighed (Once w) x = x ⊗ w
+weighed (Twice w v) x = x ⊗ w ⊗ v
+
+-- the value of a term, with its kind as the code has it
+pub term-as : (term : Term) (k t r : ℕ → Float) (test trial : Geometry) {kind : ℕ} {c a0 a1 a2 : Float} {b : Side} → kind ≡ kindOf term
+    → c ≡ coefficient (kindOf term) k test trial → TestSide kind c test t a0 a1 a2 → TrialSide kind trial r b
+    → factored term (fromSides (kindOf term) c a0 a1 a2 b (test .jdet) (trial .jdet)) ≡ termValue term k t r test trial
+term-as term k t r test trial {kind} {c} {a0} {a1} {a2} {b} e ec a h =
+    term-from term k t r test trial ec (subst (λ (n : ℕ). TestSide n c test t a0 a1 a2) e a) (subst (λ (n : ℕ). TrialSide n trial r b) e h)
+
+pub coefficient-as : (k : ℕ → Float) (test trial : Geometry) {n kind : ℕ} {c : Float} → n ≡ kind → c ≡ coefficient n k test trial → c ≡ coefficient kind k test trial
+coefficient-as k test trial e h = h ∙ ap (λ (x : ℕ). coefficient x k test trial) e
+
+-- the same sums, by another name
+pub added-as : {m n : ℕ} {xs ys : List Float} {u v : ℕ → ℕ → Float} → Added m n xs ys u → ((i j : ℕ) → u i j ≡ v i j) → Added m n xs ys v
+added-as {m} {n} {xs} {ys} h e = record { size = h .size; at = λ i j l b. h .at i j l b ∙ ap (λ (x : Float). xs ! (i + m * j) ⊕ x) (e i j); rest = h .rest }
 
 abbrev pub touching : ℕ → List Float → List Float → List Float → List Float → List Float → List Float → Touching
 touching points weights testTable trialTable kernel testGeometry trialGeometry =

@@ -1,6 +1,7 @@
 // The local matrix of a pair of cells, touching or distant, and checks 9 to 11 of what it is made from.
 use integrands::Geometry;
 use integrands::Integrand;
+use integrands::Side;
 use integrands::Term;
 ghost use mathlib.Core.Path.{_≡_};
 ghost use Prim.Native.Nat.{ℕ, _+_, _*_, _<_, _≤_};
@@ -10,12 +11,18 @@ ghost use Rattle.lists.specs.Maps.{Mapped};
 ghost use Rattle.lists.specs.Refusals.{refusal};
 ghost use Rattle.integrands.specs.declared.Integrand.{Integrand};
 ghost use Rattle.integrands.specs.Floats.{_⊕_, _⊗_, _!_};
-ghost use Rattle.integrands.specs.Terms.{kernelWidth, tableRows};
-ghost use Rattle.integrands.specs.Values.{geometryAt};
+ghost use Rattle.integrands.specs.Terms.{kindOf, kernelWidth, tableRows};
+ghost use Rattle.integrands.specs.Values.{geometryAt, termValue, pointValue};
 ghost use Rattle.integrands.specs.Columns.{tableRow, Table, Held, Added};
-ghost use Rattle.integrands.specs.ValueFacts.{plainKind, factored};
+ghost use Rattle.integrands.specs.ValueFacts.{plainKind, factored, coefficient, fromSides};
 ghost use Rattle.cell_pair_assemblers.specs.Lent.{jdetsAbove0, touchingLengths, touchingNumbers, touchingChecks, distantLengths, distantNumbers, distantChecks};
-ghost use Rattle.cell_pair_assemblers.specs.Facts.{touching, distant, TouchingFits, DistantFits, TouchingEntries, DistantEntries, touchingSum, distantRows, distantSum};
+ghost use Rattle.cell_pair_assemblers.specs.Facts.{weighed, touching, distant, TouchingFits, DistantFits, TouchingEntries, DistantEntries, touchingSum, distantRows, distantSum};
+
+// How a point value is weighed: value·w, or value·w·v.
+pub enum Weight {
+    Once(f64),
+    Twice(f64, f64),
+}
 
 // Test basis i and trial basis j at i + test_dim·j.
 pub struct LocalMatrix {
@@ -242,22 +249,291 @@ pub fn distant_refusal(
     0
 }
 
-// ---- the local matrix
+// ---- the local matrix of any integrand
 
-// entry + value·w, of each entry.
-fn accumulate(entries: &mut [f64; 100], values: &[f64; 100], count: usize, w: f64)
-    requires { ⌜ (length (now entries) ≡ 100) × (count ≤ 100) ⌝ }
-    ensures { λ _. ⌜ Mapped nan 0 count (λ (e : ℕ) (x : Float). x ⊕ now (values .entry) ! e ⊗ w) (now (entries .entry)) (now (entries .exit)) ⌝ }
+fn weighed(weight: Weight, x: f64) -> f64
+    ensures { λ r. ⌜ r ≡ weighed weight x ⌝ }
 {
-    for e in 0..count {
-        entries[e] = entries[e] + values[e] * w;
+    match weight {
+        Weight::Once(w) => x * w,
+        Weight::Twice(w, v) => x * w * v,
     }
+}
+
+// One column of one term: entry + value, weighed.
+fn one_column(
+    entries: &mut [f64; 100],
+    dim: usize,
+    j: usize,
+    term: Term,
+    c: f64,
+    a0: &[f64; 10],
+    a1: &[f64; 10],
+    a2: &[f64; 10],
+    b: Side,
+    test_jdet: f64,
+    trial_jdet: f64,
+    weight: Weight,
+)
+    requires { ⌜ (length (now entries) ≡ 100) × (dim ≤ 10) × (j < 10) ⌝ }
+    ensures { λ _. ⌜ Mapped nan (dim * j) dim
+        (λ (i : ℕ) (x : Float). x ⊕ weighed weight (factored term (fromSides (kindOf term) c (now (a0 .entry) ! i) (now (a1 .entry) ! i) (now (a2 .entry) ! i) b «test_jdet» «trial_jdet»)))
+        (now (entries .entry)) (now (entries .exit)) ⌝ }
+{
+    for i in 0..dim {
+        let value = integrands::evaluate(term, c, a0[i], a1[i], a2[i], b, test_jdet, trial_jdet);
+        entries[i + dim * j] = entries[i + dim * j] + weighed(weight, value);
+    }
+}
+
+// One column of two terms, first plus second.
+fn two_column(
+    entries: &mut [f64; 100],
+    dim: usize,
+    j: usize,
+    first: Term,
+    c: f64,
+    a0: &[f64; 10],
+    a1: &[f64; 10],
+    a2: &[f64; 10],
+    b: Side,
+    second: Term,
+    d: f64,
+    e0: &[f64; 10],
+    e1: &[f64; 10],
+    e2: &[f64; 10],
+    h: Side,
+    test_jdet: f64,
+    trial_jdet: f64,
+    weight: Weight,
+)
+    requires { ⌜ (length (now entries) ≡ 100) × (dim ≤ 10) × (j < 10) ⌝ }
+    ensures { λ _. ⌜ Mapped nan (dim * j) dim
+        (λ (i : ℕ) (x : Float). x ⊕ weighed weight (factored first (fromSides (kindOf first) c (now (a0 .entry) ! i) (now (a1 .entry) ! i) (now (a2 .entry) ! i) b «test_jdet» «trial_jdet»)
+        ⊕ factored second (fromSides (kindOf second) d (now (e0 .entry) ! i) (now (e1 .entry) ! i) (now (e2 .entry) ! i) h «test_jdet» «trial_jdet»)))
+        (now (entries .entry)) (now (entries .exit)) ⌝ }
+{
+    for i in 0..dim {
+        let x = integrands::evaluate(first, c, a0[i], a1[i], a2[i], b, test_jdet, trial_jdet);
+        let y = integrands::evaluate(second, d, e0[i], e1[i], e2[i], h, test_jdet, trial_jdet);
+        entries[i + dim * j] = entries[i + dim * j] + weighed(weight, x + y);
+    }
+}
+
+// One term at a point: c is its coefficient.
+fn add_one(
+    entries: &mut [f64; 100],
+    term: Term,
+    c: f64,
+    weight: Weight,
+    test: Geometry,
+    trial: Geometry,
+    rows: usize,
+    test_table: &[f64],
+    test_points: usize,
+    p: usize,
+    test_dim: usize,
+    trial_table: &[f64],
+    trial_points: usize,
+    q: usize,
+    trial_dim: usize,
+)
+    requires { ⌜ (length (now entries) ≡ 100) × Table rows «test_points» p «test_dim» (now «test_table») × Table rows «trial_points» q «trial_dim» (now «trial_table») × (kindOf term ≡ 3 → 3 ≤ rows) ⌝ }
+    ensures { λ _. ⌜ ((k : ℕ → Float) → c ≡ coefficient (kindOf term) k test trial → Added «test_dim» «trial_dim» (now (entries .entry)) (now (entries .exit)) (λ (i j : ℕ).
+        weighed weight (termValue term k (tableRow (now («test_table» .entry)) rows «test_points» p i) (tableRow (now («trial_table» .entry)) rows «trial_points» q j) test trial))) ⌝ }
+{
+    let kind = integrands::kind_of(term);
+    let mut a0 = [0.0; 10];
+    let mut a1 = [0.0; 10];
+    let mut a2 = [0.0; 10];
+    integrands::test_sides(
+        &mut a0,
+        &mut a1,
+        &mut a2,
+        kind,
+        c,
+        test,
+        test_table,
+        rows,
+        test_points,
+        p,
+        test_dim,
+    );
+    for j in 0..trial_dim {
+        let b = integrands::trial_side(kind, trial, trial_table, rows, trial_points, q, j);
+        one_column(
+            entries,
+            test_dim,
+            j,
+            term,
+            c,
+            &a0,
+            &a1,
+            &a2,
+            b,
+            test.jdet,
+            trial.jdet,
+            weight,
+        );
+    }
+}
+
+// Two terms at a point: c and d are their coefficients.
+fn add_two(
+    entries: &mut [f64; 100],
+    first: Term,
+    c: f64,
+    second: Term,
+    d: f64,
+    weight: Weight,
+    test: Geometry,
+    trial: Geometry,
+    rows: usize,
+    test_table: &[f64],
+    test_points: usize,
+    p: usize,
+    test_dim: usize,
+    trial_table: &[f64],
+    trial_points: usize,
+    q: usize,
+    trial_dim: usize,
+)
+    requires { ⌜ (length (now entries) ≡ 100) × Table rows «test_points» p «test_dim» (now «test_table») × Table rows «trial_points» q «trial_dim» (now «trial_table») × (kindOf first ≡ 3 → 3 ≤ rows) × (kindOf second ≡ 3 → 3 ≤ rows) ⌝ }
+    ensures { λ _. ⌜ ((k : ℕ → Float) → c ≡ coefficient (kindOf first) k test trial → d ≡ coefficient (kindOf second) k test trial → Added «test_dim» «trial_dim» (now (entries .entry)) (now (entries .exit)) (λ (i j : ℕ).
+        weighed weight (termValue first k (tableRow (now («test_table» .entry)) rows «test_points» p i) (tableRow (now («trial_table» .entry)) rows «trial_points» q j) test trial
+        ⊕ termValue second k (tableRow (now («test_table» .entry)) rows «test_points» p i) (tableRow (now («trial_table» .entry)) rows «trial_points» q j) test trial))) ⌝ }
+{
+    let kind = integrands::kind_of(first);
+    let kind2 = integrands::kind_of(second);
+    let mut a0 = [0.0; 10];
+    let mut a1 = [0.0; 10];
+    let mut a2 = [0.0; 10];
+    integrands::test_sides(
+        &mut a0,
+        &mut a1,
+        &mut a2,
+        kind,
+        c,
+        test,
+        test_table,
+        rows,
+        test_points,
+        p,
+        test_dim,
+    );
+    let mut e0 = [0.0; 10];
+    let mut e1 = [0.0; 10];
+    let mut e2 = [0.0; 10];
+    integrands::test_sides(
+        &mut e0,
+        &mut e1,
+        &mut e2,
+        kind2,
+        d,
+        test,
+        test_table,
+        rows,
+        test_points,
+        p,
+        test_dim,
+    );
+    for j in 0..trial_dim {
+        let b = integrands::trial_side(kind, trial, trial_table, rows, trial_points, q, j);
+        let h = integrands::trial_side(kind2, trial, trial_table, rows, trial_points, q, j);
+        two_column(
+            entries,
+            test_dim,
+            j,
+            first,
+            c,
+            &a0,
+            &a1,
+            &a2,
+            b,
+            second,
+            d,
+            &e0,
+            &e1,
+            &e2,
+            h,
+            test.jdet,
+            trial.jdet,
+            weight,
+        );
+    }
+}
+
+// What test point p and trial point q add to each entry. The kernel values stand from `at` on.
+fn add_point(
+    entries: &mut [f64; 100],
+    f: Integrand,
+    weight: Weight,
+    kernel: &[f64],
+    at: usize,
+    test: Geometry,
+    trial: Geometry,
+    rows: usize,
+    test_table: &[f64],
+    test_points: usize,
+    p: usize,
+    test_dim: usize,
+    trial_table: &[f64],
+    trial_points: usize,
+    q: usize,
+    trial_dim: usize,
+)
+    requires { ⌜ (length (now entries) ≡ 100) × Table rows «test_points» p «test_dim» (now «test_table») × Table rows «trial_points» q «trial_dim» (now «trial_table») × (at + kernelWidth f ≤ length (now kernel)) × (rows ≡ tableRows f) ⌝ }
+    ensures { λ _. ⌜ Added «test_dim» «trial_dim» (now (entries .entry)) (now (entries .exit)) (λ (i j : ℕ).
+        weighed weight (pointValue f (λ (d : ℕ). now (kernel .entry) ! (d + at)) (tableRow (now («test_table» .entry)) rows «test_points» p i) (tableRow (now («trial_table» .entry)) rows «trial_points» q j) test trial)) ⌝ }
+{
+    let first = f.first;
+    let c = integrands::coefficient(integrands::kind_of(first), kernel, at, test, trial);
+    if f.terms == 1 {
+        add_one(
+            entries,
+            first,
+            c,
+            weight,
+            test,
+            trial,
+            rows,
+            test_table,
+            test_points,
+            p,
+            test_dim,
+            trial_table,
+            trial_points,
+            q,
+            trial_dim,
+        );
+        return;
+    }
+    let second = f.second;
+    let d = integrands::coefficient(integrands::kind_of(second), kernel, at, test, trial);
+    add_two(
+        entries,
+        first,
+        c,
+        second,
+        d,
+        weight,
+        test,
+        trial,
+        rows,
+        test_table,
+        test_points,
+        p,
+        test_dim,
+        trial_table,
+        trial_points,
+        q,
+        trial_dim,
+    );
 }
 
 // What point q adds to each entry: value·(weight·(test jdet·trial jdet)).
 fn touching_point(
     entries: &mut [f64; 100],
-    values: &mut [f64; 100],
     f: Integrand,
     width: usize,
     rows: usize,
@@ -272,17 +548,19 @@ fn touching_point(
     test_geometry: &[f64],
     trial_geometry: &[f64],
 )
-    requires { ⌜ (q < points) × (length (now values) ≡ 100) × (width ≡ kernelWidth f) × (rows ≡ tableRows f)
+    requires { ⌜ (q < points) × (width ≡ kernelWidth f) × (rows ≡ tableRows f)
         × TouchingFits f «test_dim» «trial_dim» (touching «points» (now «weights») (now «test_table») (now «trial_table») (now «kernel») (now «test_geometry») (now «trial_geometry»))
         × Held «test_dim» «trial_dim» (now entries) (λ (i j : ℕ). touchingSum f (touching «points» (now «weights») (now «test_table») (now «trial_table») (now «kernel») (now «test_geometry») (now «trial_geometry»)) i j q) ⌝ }
-    ensures { λ _. ⌜ (length (now (values .exit)) ≡ 100)
-        × Held «test_dim» «trial_dim» (now (entries .exit)) (λ (i j : ℕ). touchingSum f (touching «points» (now («weights» .entry)) (now («test_table» .entry)) (now («trial_table» .entry)) (now («kernel» .entry)) (now («test_geometry» .entry)) (now («trial_geometry» .entry))) i j (q + 1)) ⌝ }
+    ensures { λ _. ⌜ Held «test_dim» «trial_dim» (now (entries .exit)) (λ (i j : ℕ). touchingSum f (touching «points» (now («weights» .entry)) (now («test_table» .entry)) (now («trial_table» .entry)) (now («kernel» .entry)) (now («test_geometry» .entry)) (now («trial_geometry» .entry))) i j (q + 1)) ⌝ }
 {
     let test = integrands::geometry_at(test_geometry, q);
     let trial = integrands::geometry_at(trial_geometry, q);
-    integrands::evaluate(
-        values,
+    let w = weights[q] * (test.jdet * trial.jdet);
+    let weight = Weight::Once(w);
+    add_point(
+        entries,
         f,
+        weight,
         kernel,
         width * q,
         test,
@@ -297,8 +575,6 @@ fn touching_point(
         q,
         trial_dim,
     );
-    let w = weights[q] * (test.jdet * trial.jdet);
-    accumulate(entries, values, test_dim * trial_dim, w);
 }
 
 fn touching_general(
@@ -319,11 +595,9 @@ fn touching_general(
     let rows = integrands::table_rows(f);
     let width = integrands::kernel_width(f);
     let mut entries = [0.0; 100];
-    let mut values = [0.0; 100];
     for q in 0..points {
         touching_point(
             &mut entries,
-            &mut values,
             f,
             width,
             rows,
@@ -346,20 +620,9 @@ fn touching_general(
     }
 }
 
-// entry + value·w·v, of each entry.
-fn accumulate_twice(entries: &mut [f64; 100], values: &[f64; 100], count: usize, w: f64, v: f64)
-    requires { ⌜ (length (now entries) ≡ 100) × (count ≤ 100) ⌝ }
-    ensures { λ _. ⌜ Mapped nan 0 count (λ (e : ℕ) (x : Float). x ⊕ now (values .entry) ! e ⊗ w ⊗ v) (now (entries .entry)) (now (entries .exit)) ⌝ }
-{
-    for e in 0..count {
-        entries[e] = entries[e] + values[e] * w * v;
-    }
-}
-
 // What test point t and trial point r add to each entry: value·(trial weight·trial jdet)·v, where v is test weight·test jdet.
 fn distant_point(
     entries: &mut [f64; 100],
-    values: &mut [f64; 100],
     f: Integrand,
     width: usize,
     rows: usize,
@@ -379,17 +642,19 @@ fn distant_point(
     test_geometry: &[f64],
     trial_geometry: &[f64],
 )
-    requires { ⌜ (t < «test_points») × (r < «trial_points») × (length (now values) ≡ 100) × (width ≡ kernelWidth f) × (rows ≡ tableRows f)
+    requires { ⌜ (t < «test_points») × (r < «trial_points») × (width ≡ kernelWidth f) × (rows ≡ tableRows f)
         × (test ≡ geometryAt (now «test_geometry») t) × (v ≡ now «test_weights» ! t ⊗ test .jdet)
         × DistantFits f «test_dim» «trial_dim» (distant «test_points» «trial_points» (now «test_weights») (now «trial_weights») (now «test_table») (now «trial_table») (now «kernel») (now «test_geometry») (now «trial_geometry»))
         × Held «test_dim» «trial_dim» (now entries) (λ (i j : ℕ). distantSum f (distant «test_points» «trial_points» (now «test_weights») (now «trial_weights») (now «test_table») (now «trial_table») (now «kernel») (now «test_geometry») (now «trial_geometry»)) i j t r) ⌝ }
-    ensures { λ _. ⌜ (length (now (values .exit)) ≡ 100)
-        × Held «test_dim» «trial_dim» (now (entries .exit)) (λ (i j : ℕ). distantSum f (distant «test_points» «trial_points» (now («test_weights» .entry)) (now («trial_weights» .entry)) (now («test_table» .entry)) (now («trial_table» .entry)) (now («kernel» .entry)) (now («test_geometry» .entry)) (now («trial_geometry» .entry))) i j t (r + 1)) ⌝ }
+    ensures { λ _. ⌜ Held «test_dim» «trial_dim» (now (entries .exit)) (λ (i j : ℕ). distantSum f (distant «test_points» «trial_points» (now («test_weights» .entry)) (now («trial_weights» .entry)) (now («test_table» .entry)) (now («trial_table» .entry)) (now («kernel» .entry)) (now («test_geometry» .entry)) (now («trial_geometry» .entry))) i j t (r + 1)) ⌝ }
 {
     let trial = integrands::geometry_at(trial_geometry, r);
-    integrands::evaluate(
-        values,
+    let w = trial_weights[r] * trial.jdet;
+    let weight = Weight::Twice(w, v);
+    add_point(
+        entries,
         f,
+        weight,
         kernel,
         width * (t + test_points * r),
         test,
@@ -404,14 +669,11 @@ fn distant_point(
         r,
         trial_dim,
     );
-    let w = trial_weights[r] * trial.jdet;
-    accumulate_twice(entries, values, test_dim * trial_dim, w, v);
 }
 
 // What test point t, with each trial point, adds to each entry.
 fn distant_row(
     entries: &mut [f64; 100],
-    values: &mut [f64; 100],
     f: Integrand,
     width: usize,
     rows: usize,
@@ -428,18 +690,16 @@ fn distant_row(
     test_geometry: &[f64],
     trial_geometry: &[f64],
 )
-    requires { ⌜ (t < «test_points») × (length (now values) ≡ 100) × (width ≡ kernelWidth f) × (rows ≡ tableRows f)
+    requires { ⌜ (t < «test_points») × (width ≡ kernelWidth f) × (rows ≡ tableRows f)
         × DistantFits f «test_dim» «trial_dim» (distant «test_points» «trial_points» (now «test_weights») (now «trial_weights») (now «test_table») (now «trial_table») (now «kernel») (now «test_geometry») (now «trial_geometry»))
         × Held «test_dim» «trial_dim» (now entries) (λ (i j : ℕ). distantRows f (distant «test_points» «trial_points» (now «test_weights») (now «trial_weights») (now «test_table») (now «trial_table») (now «kernel») (now «test_geometry») (now «trial_geometry»)) i j t) ⌝ }
-    ensures { λ _. ⌜ (length (now (values .exit)) ≡ 100)
-        × Held «test_dim» «trial_dim» (now (entries .exit)) (λ (i j : ℕ). distantRows f (distant «test_points» «trial_points» (now («test_weights» .entry)) (now («trial_weights» .entry)) (now («test_table» .entry)) (now («trial_table» .entry)) (now («kernel» .entry)) (now («test_geometry» .entry)) (now («trial_geometry» .entry))) i j (t + 1)) ⌝ }
+    ensures { λ _. ⌜ Held «test_dim» «trial_dim» (now (entries .exit)) (λ (i j : ℕ). distantRows f (distant «test_points» «trial_points» (now («test_weights» .entry)) (now («trial_weights» .entry)) (now («test_table» .entry)) (now («trial_table» .entry)) (now («kernel» .entry)) (now («test_geometry» .entry)) (now («trial_geometry» .entry))) i j (t + 1)) ⌝ }
 {
     let test = integrands::geometry_at(test_geometry, t);
     let v = test_weights[t] * test.jdet;
     for r in 0..trial_points {
         distant_point(
             entries,
-            values,
             f,
             width,
             rows,
@@ -482,11 +742,9 @@ fn distant_general(
     let rows = integrands::table_rows(f);
     let width = integrands::kernel_width(f);
     let mut entries = [0.0; 100];
-    let mut values = [0.0; 100];
     for t in 0..test_points {
         distant_row(
             &mut entries,
-            &mut values,
             f,
             width,
             rows,

@@ -1,15 +1,15 @@
-// Integrands: one or two terms, check 6, and the values of their terms at a point.
+// Integrands: one or two terms, check 6, and the value of a term at a point.
 ghost use mathlib.Core.Path.{_≡_};
 ghost use Prim.Native.Nat.{ℕ, _+_, _*_, _<_, _≤_};
 ghost use lib.ListN.{length};
 ghost use lib.Ieee as Ieee;
 ghost use lib.Ieee.{Float, nan};
 ghost use Rattle.lists.specs.Maps.{Mapped};
-ghost use Rattle.integrands.specs.Floats.{_⊕_, _⊖_, _⊗_, _⊘_, _!_, finite, allFinite};
+ghost use Rattle.integrands.specs.Floats.{_⊗_, _!_, finite, allFinite};
 ghost use Rattle.integrands.specs.Terms.{kindOf, termRight, integrandRight, kernelWidth, tableRows};
-ghost use Rattle.integrands.specs.Values.{geometryAt, alongNormal, curl, curlCurl, kindValue, termValue, pointValue};
-ghost use Rattle.integrands.specs.Columns.{tableRow, Reach, Table, Held, Reads};
-ghost use Rattle.integrands.specs.ValueFacts.{coefficient, plainKind, factored};
+ghost use Rattle.integrands.specs.Values.{geometryAt, alongNormal, curl};
+ghost use Rattle.integrands.specs.Columns.{tableRow, Reach, Table};
+ghost use Rattle.integrands.specs.ValueFacts.{coefficient, plainKind, factored, TestSide, TrialSide, fromSides};
 
 // A term: its kind, 0 to 4, alone or with a factor.
 pub enum Term {
@@ -22,6 +22,13 @@ pub struct Integrand {
     pub terms: u32,
     pub first: Term,
     pub second: Term,
+}
+
+// What a trial basis function brings to a point value: its curls in kind 3, else its row 0 in `x0`.
+pub struct Side {
+    pub x0: f64,
+    pub x1: f64,
+    pub x2: f64,
 }
 
 // The geometry of a point: jdet, normal 0 to 2, jacobian 0 to 5.
@@ -56,7 +63,7 @@ pub fn all_finite(s: &[f64]) -> bool
     ok
 }
 
-fn kind_of(term: Term) -> u32
+pub fn kind_of(term: Term) -> u32
     ensures { λ r. ⌜ r ≡ kindOf term ⌝ }
 {
     match term {
@@ -135,7 +142,7 @@ pub fn geometry_at(s: &[f64], p: usize) -> Geometry
     }
 }
 
-// ---- values at a point, of each pair of basis functions: test basis i and trial basis j at i + m·j
+// ---- values at a point
 
 // Row i of basis function b at point p of a table.
 pub fn table_value(table: &[f64], rows: usize, points: usize, p: usize, b: usize, i: usize) -> f64
@@ -160,42 +167,6 @@ pub fn scaled_rows(
 {
     for b in 0..dim {
         out[b] = c * table_value(table, rows, points, p, b, 0);
-    }
-}
-
-// One column of c·t·r: the products c·t times r.
-fn outer_column(values: &mut [f64; 100], dim: usize, j: usize, scaled: &[f64; 10], r: f64)
-    requires { ⌜ (length (now values) ≡ 100) × (dim ≤ 10) × (j < 10) ⌝ }
-    ensures { λ _. ⌜ Mapped nan (dim * j) dim (λ (i : ℕ) (x : Float). now (scaled .entry) ! i ⊗ r) (now (values .entry)) (now (values .exit)) ⌝ }
-{
-    for i in 0..dim {
-        values[i + dim * j] = scaled[i] * r;
-    }
-}
-
-// The values c·t·r.
-fn outer(
-    values: &mut [f64; 100],
-    c: f64,
-    rows: usize,
-    test_table: &[f64],
-    test_points: usize,
-    p: usize,
-    test_dim: usize,
-    trial_table: &[f64],
-    trial_points: usize,
-    q: usize,
-    trial_dim: usize,
-)
-    requires { ⌜ (length (now values) ≡ 100) × Table rows «test_points» p «test_dim» (now «test_table») × Table rows «trial_points» q «trial_dim» (now «trial_table») ⌝ }
-    ensures { λ _. ⌜ Held «test_dim» «trial_dim» (now (values .exit)) (λ (i j : ℕ).
-        c ⊗ tableRow (now («test_table» .entry)) rows «test_points» p i 0 ⊗ tableRow (now («trial_table» .entry)) rows «trial_points» q j 0) ⌝ }
-{
-    let mut scaled = [0.0; 10];
-    scaled_rows(&mut scaled, c, test_table, rows, test_points, p, test_dim);
-    for j in 0..trial_dim {
-        let r = table_value(trial_table, rows, trial_points, q, j, 0);
-        outer_column(values, test_dim, j, &scaled, r);
     }
 }
 
@@ -235,105 +206,6 @@ fn curl_rows(
     }
 }
 
-// One column of curl-curl: k0·(P0 + P1 + P2)/test jdet/trial jdet.
-fn curl_column(
-    values: &mut [f64; 100],
-    dim: usize,
-    j: usize,
-    k0: f64,
-    a0: &[f64; 10],
-    a1: &[f64; 10],
-    a2: &[f64; 10],
-    b0: f64,
-    b1: f64,
-    b2: f64,
-    test_jdet: f64,
-    trial_jdet: f64,
-)
-    requires { ⌜ (length (now values) ≡ 100) × (dim ≤ 10) × (j < 10) ⌝ }
-    ensures { λ _. ⌜ Mapped nan (dim * j) dim
-        (λ (i : ℕ) (x : Float). k0 ⊗ (now (a0 .entry) ! i ⊗ b0 ⊕ now (a1 .entry) ! i ⊗ b1 ⊕ now (a2 .entry) ! i ⊗ b2) ⊘ «test_jdet» ⊘ «trial_jdet»)
-        (now (values .entry)) (now (values .exit)) ⌝ }
-{
-    for i in 0..dim {
-        values[i + dim * j] = k0 * (a0[i] * b0 + a1[i] * b1 + a2[i] * b2) / test_jdet / trial_jdet;
-    }
-}
-
-// The values of curl-curl. The curls of a basis function are worked out once.
-fn curl_curl(
-    values: &mut [f64; 100],
-    k0: f64,
-    test: Geometry,
-    trial: Geometry,
-    rows: usize,
-    test_table: &[f64],
-    test_points: usize,
-    p: usize,
-    test_dim: usize,
-    trial_table: &[f64],
-    trial_points: usize,
-    q: usize,
-    trial_dim: usize,
-)
-    requires { ⌜ (length (now values) ≡ 100) × Table rows «test_points» p «test_dim» (now «test_table») × Table rows «trial_points» q «trial_dim» (now «trial_table») × (3 ≤ rows) ⌝ }
-    ensures { λ _. ⌜ Held «test_dim» «trial_dim» (now (values .exit)) (λ (i j : ℕ).
-        curlCurl (λ (d : ℕ). k0) (tableRow (now («test_table» .entry)) rows «test_points» p i) (tableRow (now («trial_table» .entry)) rows «trial_points» q j) test trial) ⌝ }
-{
-    let mut a0 = [0.0; 10];
-    let mut a1 = [0.0; 10];
-    let mut a2 = [0.0; 10];
-    curl_rows(
-        &mut a0,
-        test.j3,
-        test.j0,
-        test_table,
-        rows,
-        test_points,
-        p,
-        test_dim,
-    );
-    curl_rows(
-        &mut a1,
-        test.j4,
-        test.j1,
-        test_table,
-        rows,
-        test_points,
-        p,
-        test_dim,
-    );
-    curl_rows(
-        &mut a2,
-        test.j5,
-        test.j2,
-        test_table,
-        rows,
-        test_points,
-        p,
-        test_dim,
-    );
-    for j in 0..trial_dim {
-        let b0 = curl_at(trial.j3, trial.j0, trial_table, rows, trial_points, q, j);
-        let b1 = curl_at(trial.j4, trial.j1, trial_table, rows, trial_points, q, j);
-        let b2 = curl_at(trial.j5, trial.j2, trial_table, rows, trial_points, q, j);
-        curl_column(
-            values,
-            test_dim,
-            j,
-            k0,
-            &a0,
-            &a1,
-            &a2,
-            b0,
-            b1,
-            b2,
-            test.jdet,
-            trial.jdet,
-        );
-    }
-}
-
 // k1·n0 + k2·n1 + k3·n2, of the kernel values from `at` on.
 fn along_normal(kernel: &[f64], at: usize, g: Geometry) -> f64
     requires { ⌜ at + 4 ≤ length (now kernel) ⌝ }
@@ -354,61 +226,6 @@ pub fn coefficient(kind: u32, kernel: &[f64], at: usize, test: Geometry, trial: 
         2 => -along_normal(kernel, at, test),
         3 => kernel[at],
         _ => kernel[at] * (trial.n0 * test.n0 + trial.n1 * test.n1 + trial.n2 * test.n2),
-    }
-}
-
-fn kind_values(
-    values: &mut [f64; 100],
-    kind: u32,
-    kernel: &[f64],
-    at: usize,
-    test: Geometry,
-    trial: Geometry,
-    rows: usize,
-    test_table: &[f64],
-    test_points: usize,
-    p: usize,
-    test_dim: usize,
-    trial_table: &[f64],
-    trial_points: usize,
-    q: usize,
-    trial_dim: usize,
-)
-    requires { ⌜ (length (now values) ≡ 100) × Table rows «test_points» p «test_dim» (now «test_table») × Table rows «trial_points» q «trial_dim» (now «trial_table») × Reads kind at rows (now kernel) ⌝ }
-    ensures { λ _. ⌜ Held «test_dim» «trial_dim» (now (values .exit)) (λ (i j : ℕ).
-        kindValue kind (λ (d : ℕ). now (kernel .entry) ! (d + at)) (tableRow (now («test_table» .entry)) rows «test_points» p i) (tableRow (now («trial_table» .entry)) rows «trial_points» q j) test trial) ⌝ }
-{
-    let c = coefficient(kind, kernel, at, test, trial);
-    if kind == 3 {
-        curl_curl(
-            values,
-            c,
-            test,
-            trial,
-            rows,
-            test_table,
-            test_points,
-            p,
-            test_dim,
-            trial_table,
-            trial_points,
-            q,
-            trial_dim,
-        );
-    } else {
-        outer(
-            values,
-            c,
-            rows,
-            test_table,
-            test_points,
-            p,
-            test_dim,
-            trial_table,
-            trial_points,
-            q,
-            trial_dim,
-        );
     }
 }
 
@@ -433,150 +250,93 @@ pub fn factored(term: Term, x: f64) -> f64
     }
 }
 
-// A factor, from the left.
-fn scale(values: &mut [f64; 100], count: usize, factor: f64)
-    requires { ⌜ (length (now values) ≡ 100) × (count ≤ 100) ⌝ }
-    ensures { λ _. ⌜ Mapped nan 0 count (λ (e : ℕ) (x : Float). factor ⊗ x) (now (values .entry)) (now (values .exit)) ⌝ }
-{
-    for e in 0..count {
-        values[e] = factor * values[e];
-    }
-}
-
-fn term_values(
-    values: &mut [f64; 100],
-    term: Term,
-    kernel: &[f64],
-    at: usize,
-    test: Geometry,
-    trial: Geometry,
+// The three curls of each test basis function in kind 3, else c times its row 0, in `a0`.
+pub fn test_sides(
+    a0: &mut [f64; 10],
+    a1: &mut [f64; 10],
+    a2: &mut [f64; 10],
+    kind: u32,
+    c: f64,
+    g: Geometry,
+    table: &[f64],
     rows: usize,
-    test_table: &[f64],
-    test_points: usize,
+    points: usize,
     p: usize,
-    test_dim: usize,
-    trial_table: &[f64],
-    trial_points: usize,
-    q: usize,
-    trial_dim: usize,
+    dim: usize,
 )
-    requires { ⌜ (length (now values) ≡ 100) × Table rows «test_points» p «test_dim» (now «test_table») × Table rows «trial_points» q «trial_dim» (now «trial_table») × Reads (kindOf term) at rows (now kernel) ⌝ }
-    ensures { λ _. ⌜ Held «test_dim» «trial_dim» (now (values .exit)) (λ (i j : ℕ).
-        termValue term (λ (d : ℕ). now (kernel .entry) ! (d + at)) (tableRow (now («test_table» .entry)) rows «test_points» p i) (tableRow (now («trial_table» .entry)) rows «trial_points» q j) test trial) ⌝ }
+    requires { ⌜ (length (now a0) ≡ 10) × (length (now a1) ≡ 10) × (length (now a2) ≡ 10) × Table rows points p dim (now table) × (kind ≡ 3 → 3 ≤ rows) ⌝ }
+    ensures { λ _. ⌜ ((b : ℕ) → b < dim → TestSide kind c g (tableRow (now (table .entry)) rows points p b) (now (a0 .exit) ! b) (now (a1 .exit) ! b) (now (a2 .exit) ! b)) ⌝ }
 {
-    match term {
-        Term::Bare(kind) => kind_values(
-            values,
-            kind,
-            kernel,
-            at,
-            test,
-            trial,
-            rows,
-            test_table,
-            test_points,
-            p,
-            test_dim,
-            trial_table,
-            trial_points,
-            q,
-            trial_dim,
-        ),
-        Term::Scaled(factor, kind) => {
-            kind_values(
-                values,
-                kind,
-                kernel,
-                at,
-                test,
-                trial,
-                rows,
-                test_table,
-                test_points,
-                p,
-                test_dim,
-                trial_table,
-                trial_points,
-                q,
-                trial_dim,
-            );
-            scale(values, test_dim * trial_dim, factor);
-        }
+    if kind == 3 {
+        curl_rows(a0, g.j3, g.j0, table, rows, points, p, dim);
+        curl_rows(a1, g.j4, g.j1, table, rows, points, p, dim);
+        curl_rows(a2, g.j5, g.j2, table, rows, points, p, dim);
+    } else {
+        scaled_rows(a0, c, table, rows, points, p, dim);
     }
 }
 
-// First plus second.
-fn add_values(values: &mut [f64; 100], second: &[f64; 100], count: usize)
-    requires { ⌜ (length (now values) ≡ 100) × (count ≤ 100) ⌝ }
-    ensures { λ _. ⌜ Mapped nan 0 count (λ (e : ℕ) (x : Float). x ⊕ now (second .entry) ! e) (now (values .entry)) (now (values .exit)) ⌝ }
+pub fn trial_side(
+    kind: u32,
+    g: Geometry,
+    table: &[f64],
+    rows: usize,
+    points: usize,
+    p: usize,
+    b: usize,
+) -> Side
+    requires { ⌜ Reach rows points p b (now table) × (kind ≡ 3 → 3 ≤ rows) ⌝ }
+    ensures { λ r. ⌜ TrialSide kind g (tableRow (now (table .entry)) rows points p b) r ⌝ }
 {
-    for e in 0..count {
-        values[e] = values[e] + second[e];
+    if kind == 3 {
+        return Side {
+            x0: curl_at(g.j3, g.j0, table, rows, points, p, b),
+            x1: curl_at(g.j4, g.j1, table, rows, points, p, b),
+            x2: curl_at(g.j5, g.j2, table, rows, points, p, b),
+        };
+    }
+    Side {
+        x0: table_value(table, rows, points, p, b, 0),
+        x1: 0.0,
+        x2: 0.0,
     }
 }
 
-// The point values of test point p and trial point q, for each pair of basis functions: test basis i and trial basis j at i + test_dim·j.
-// The kernel values stand from `at` on.
+// k0·(P0 + P1 + P2)/test jdet/trial jdet in kind 3, else c·t·r.
+fn kind_value(
+    kind: u32,
+    c: f64,
+    a0: f64,
+    a1: f64,
+    a2: f64,
+    b: Side,
+    test_jdet: f64,
+    trial_jdet: f64,
+) -> f64
+    ensures { λ r. ⌜ r ≡ fromSides kind c a0 a1 a2 b «test_jdet» «trial_jdet» ⌝ }
+{
+    if kind == 3 {
+        return c * (a0 * b.x0 + a1 * b.x1 + a2 * b.x2) / test_jdet / trial_jdet;
+    }
+    a0 * b.x0
+}
+
+// The value of a term at a point, from its coefficient and what the two basis functions bring.
 pub fn evaluate(
-    values: &mut [f64; 100],
-    f: Integrand,
-    kernel: &[f64],
-    at: usize,
-    test: Geometry,
-    trial: Geometry,
-    rows: usize,
-    test_table: &[f64],
-    test_points: usize,
-    p: usize,
-    test_dim: usize,
-    trial_table: &[f64],
-    trial_points: usize,
-    q: usize,
-    trial_dim: usize,
-)
-    requires { ⌜ (length (now values) ≡ 100) × Table rows «test_points» p «test_dim» (now «test_table») × Table rows «trial_points» q «trial_dim» (now «trial_table») × (at + kernelWidth f ≤ length (now kernel)) × (rows ≡ tableRows f) ⌝ }
-    ensures { λ _. ⌜ Held «test_dim» «trial_dim» (now (values .exit)) (λ (i j : ℕ).
-        pointValue f (λ (d : ℕ). now (kernel .entry) ! (d + at)) (tableRow (now («test_table» .entry)) rows «test_points» p i) (tableRow (now («trial_table» .entry)) rows «trial_points» q j) test trial) ⌝ }
+    term: Term,
+    c: f64,
+    a0: f64,
+    a1: f64,
+    a2: f64,
+    b: Side,
+    test_jdet: f64,
+    trial_jdet: f64,
+) -> f64
+    ensures { λ r. ⌜ r ≡ factored term (fromSides (kindOf term) c a0 a1 a2 b «test_jdet» «trial_jdet») ⌝ }
 {
-    let first = f.first;
-    term_values(
-        values,
-        first,
-        kernel,
-        at,
-        test,
-        trial,
-        rows,
-        test_table,
-        test_points,
-        p,
-        test_dim,
-        trial_table,
-        trial_points,
-        q,
-        trial_dim,
-    );
-    if f.terms == 1 {
-        return;
-    }
-    let second = f.second;
-    let mut more = [0.0; 100];
-    term_values(
-        &mut more,
-        second,
-        kernel,
-        at,
-        test,
-        trial,
-        rows,
-        test_table,
-        test_points,
-        p,
-        test_dim,
-        trial_table,
-        trial_points,
-        q,
-        trial_dim,
-    );
-    add_values(values, &more, test_dim * trial_dim);
+    let kind = kind_of(term);
+    factored(
+        term,
+        kind_value(kind, c, a0, a1, a2, b, test_jdet, trial_jdet),
+    )
 }

@@ -2,10 +2,7 @@
 use mathlib.Core.Path.{_≡_, refl, _∙_}
 use Prim.Native.Nat.{ℕ, _-_, _≤_}
 use native.Mathlib.Omega.{arith}
-use lib.ListN.{length, length-replicate}
-use lib.Ieee.{Float}
 use lib.Ieee as Ieee
-use Rattle.integrands.specs.Floats.{0·0}
 use Rattle.integrands.specs.Columns.{Held}
 use Rattle.cell_pair_assemblers.specs.Facts.{distant, distantRows, distant-end, distant-begin}
 use borrow.Author.Needs.{needs}
@@ -13,13 +10,12 @@ use Rattle.cell_pair_assemblers.proofs.distant_general.Statement.{state
 use Rattle.cell_pair_assemblers.proofs.distant_general.Tie as tie
 
 abbrev Inv-loop : tie.InvT-loop
-Inv-loop f test-dim trial-dim test-points trial-points test-weights trial-weights test-table trial-table kernel test-geometry trial-geometry rows width entries₀ values₀ t₀ entries values t =
+Inv-loop f test-dim trial-dim test-points trial-points test-weights trial-weights test-table trial-table kernel test-geometry trial-geometry rows width entries₀ t₀ entries t =
     (t ≤ test-points)
-    × (length values ≡ 100)
     × Held test-dim trial-dim entries (λ (i j : ℕ). distantRows f (distant test-points trial-points test-weights trial-weights test-table trial-table kernel test-geometry trial-geometry) i j t)
 
 abbrev μ-loop : tie.MeasureT-loop
-μ-loop f test-dim trial-dim test-points trial-points test-weights trial-weights test-table trial-table kernel test-geometry trial-geometry rows width entries₀ values₀ t₀ entries values t = test-points - t
+μ-loop f test-dim trial-dim test-points trial-points test-weights trial-weights test-table trial-table kernel test-geometry trial-geometry rows width entries₀ t₀ entries t = test-points - t
 
 table-rows-requires : tie.Need-table-rows-requires Inv-loop μ-loop
 table-rows-requires c κs = search needs
@@ -30,26 +26,26 @@ kernel-width-requires c κs = search needs
 loop-holds : tie.Need-loop-holds Inv-loop μ-loop
 loop-holds c =
     let start = c .before .before .before .before .before .before .before .before .before in
-    (search needs, length-replicate {A = Float} 100 0·0, distant-begin (start .args .f) (distant (start .args .test-points) (start .args .trial-points) (start .args .test-weights .now) (start .args .trial-weights .now) (start .args .test-table .now) (start .args .trial-table .now) (start .args .kernel .now) (start .args .test-geometry .now) (start .args .trial-geometry .now)) (start .pre .testFew) (start .pre .trialFew))
+    (search needs, distant-begin (start .args .f) (distant (start .args .test-points) (start .args .trial-points) (start .args .test-weights .now) (start .args .trial-weights .now) (start .args .test-table .now) (start .args .trial-table .now) (start .args .kernel .now) (start .args .test-geometry .now) (start .args .trial-geometry .now)) (start .pre .testFew) (start .pre .trialFew))
 
 distant-row-requires : tie.Need-distant-row-requires Inv-loop μ-loop
 distant-row-requires c κs =
-    let at-loop = c .before .before .before .loop .inv in
-    (c .before .before .loop-test .taken, at-loop .1, c .before .before .before .before .kernel-width .ensures, c .before .before .before .before .before .table-rows .ensures, c .before .before .before .before .before .before .before .before .before .before .before .before .before .pre, at-loop .2)
+    let start = c .before .before .before .before .before .before .before .before .before .before .before .before in
+    (c .before .loop-test .taken, c .before .before .before .kernel-width .ensures, c .before .before .before .before .table-rows .ensures, start .pre, c .before .before .loop .inv .1)
 
 add-t : tie.Need-add-t Inv-loop μ-loop
-add-t c = omega (arith, c .before .before .before .loop-test .taken, c .before .before .before .before .before .before .before .before .before .before .before .before .before .before .pre .testCount)
+add-t c = omega (arith, c .before .before .loop-test .taken, c .before .before .before .before .before .before .before .before .before .before .before .before .before .pre .testCount)
 
 loop-less : tie.Need-loop-less Inv-loop μ-loop
 loop-less c = search needs
 
 loop-again : tie.Need-loop-again Inv-loop μ-loop
-loop-again c = (omega (arith, c .before .before .before .loop-test .taken), c .distant-row .ensures .0, c .distant-row .ensures .1)
+loop-again c = (omega (arith, c .before .before .loop-test .taken), c .distant-row .ensures)
 
 returns : tie.Need-returns Inv-loop μ-loop
 returns c =
     let end : c .before .loop .t ≡ c .before .before .before .before .before .before .before .before .before .before .before .args .test-points = omega arith in
-    let held = rw end at (c .before .loop .inv .2) in
+    let held = rw end at (c .before .loop .inv .1) in
     record { testDim = refl; trialDim = refl; entries = λ i j l b. held .at i j l b ∙ distant-end (c .before .before .before .before .before .before .before .before .before .before .before .args .f) (distant (c .before .before .before .before .before .before .before .before .before .before .before .args .test-points) (c .before .before .before .before .before .before .before .before .before .before .before .args .trial-points) (c .before .before .before .before .before .before .before .before .before .before .before .args .test-weights .now) (c .before .before .before .before .before .before .before .before .before .before .before .args .trial-weights .now) (c .before .before .before .before .before .before .before .before .before .before .before .args .test-table .now) (c .before .before .before .before .before .before .before .before .before .before .before .args .trial-table .now) (c .before .before .before .before .before .before .before .before .before .before .before .args .kernel .now) (c .before .before .before .before .before .before .before .before .before .before .before .args .test-geometry .now) (c .before .before .before .before .before .before .before .before .before .before .before .args .trial-geometry .now)) i j }
 
 pub distant-general-spec : {M : Type 1} → statement M
