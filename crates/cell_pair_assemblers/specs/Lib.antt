@@ -2,4 +2,5 @@
 pub mod Lent
 pub mod Entries
 pub mod Facts
+pub mod Pairs
 pub mod Examples

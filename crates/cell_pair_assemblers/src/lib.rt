@@ -4,6 +4,7 @@ use integrands::Integrand;
 use integrands::Side;
 use integrands::Term;
 ghost use mathlib.Core.Path.{_≡_};
+ghost use mathlib.Core.Bool.{true};
 ghost use Prim.Native.Nat.{ℕ, _+_, _*_, _<_, _≤_};
 ghost use lib.ListN.{length};
 ghost use lib.Ieee.{Float, nan};
@@ -16,6 +17,7 @@ ghost use Rattle.integrands.specs.Values.{geometryAt, termValue, pointValue};
 ghost use Rattle.integrands.specs.Columns.{tableRow, Table, Held, Added};
 ghost use Rattle.integrands.specs.ValueFacts.{plainKind, factored, coefficient, fromSides};
 ghost use Rattle.cell_pair_assemblers.specs.Lent.{jdetsAbove0, touchingLengths, touchingNumbers, touchingChecks, distantLengths, distantNumbers, distantChecks};
+ghost use Rattle.cell_pair_assemblers.specs.Pairs.{PairFits, PairEntries, pairCount, pairTrial, pairPlace, pairWeight, pairRows, pairSum};
 ghost use Rattle.cell_pair_assemblers.specs.Facts.{weighed, touching, distant, TouchingFits, DistantFits, TouchingEntries, DistantEntries, touchingSum, distantRows, distantSum};
 
 // How a point value is weighed: value·w, or value·w·v.
@@ -531,105 +533,71 @@ fn add_point(
     );
 }
 
-// What point q adds to each entry: value·(weight·(test jdet·trial jdet)).
-fn touching_point(
-    entries: &mut [f64; 100],
-    f: Integrand,
-    width: usize,
-    rows: usize,
-    q: usize,
-    test_dim: usize,
-    trial_dim: usize,
-    points: usize,
-    weights: &[f64],
-    test_table: &[f64],
-    trial_table: &[f64],
-    kernel: &[f64],
-    test_geometry: &[f64],
-    trial_geometry: &[f64],
-)
-    requires { ⌜ (q < points) × (width ≡ kernelWidth f) × (rows ≡ tableRows f)
-        × TouchingFits f «test_dim» «trial_dim» (touching «points» (now «weights») (now «test_table») (now «trial_table») (now «kernel») (now «test_geometry») (now «trial_geometry»))
-        × Held «test_dim» «trial_dim» (now entries) (λ (i j : ℕ). touchingSum f (touching «points» (now «weights») (now «test_table») (now «trial_table») (now «kernel») (now «test_geometry») (now «trial_geometry»)) i j q) ⌝ }
-    ensures { λ _. ⌜ Held «test_dim» «trial_dim» (now (entries .exit)) (λ (i j : ℕ). touchingSum f (touching «points» (now («weights» .entry)) (now («test_table» .entry)) (now («trial_table» .entry)) (now («kernel» .entry)) (now («test_geometry» .entry)) (now («trial_geometry» .entry))) i j (q + 1)) ⌝ }
+// ---- both kinds of pairs: `apart` is true of a distant pair; of a touching pair test point t goes with trial point t alone
+
+// How many trial points go with a test point.
+fn pair_count(apart: bool, trial_points: usize) -> usize
+    ensures { λ r. ⌜ r ≡ pairCount apart «trial_points» ⌝ }
 {
-    let test = integrands::geometry_at(test_geometry, q);
-    let trial = integrands::geometry_at(trial_geometry, q);
-    let w = weights[q] * (test.jdet * trial.jdet);
-    let weight = Weight::Once(w);
-    add_point(
-        entries,
-        f,
-        weight,
-        kernel,
-        width * q,
-        test,
-        trial,
-        rows,
-        test_table,
-        points,
-        q,
-        test_dim,
-        trial_table,
-        points,
-        q,
-        trial_dim,
-    );
+    if apart {
+        return trial_points;
+    }
+    1
 }
 
-fn touching_general(
-    f: Integrand,
-    test_dim: usize,
-    trial_dim: usize,
-    points: usize,
-    weights: &[f64],
-    test_table: &[f64],
-    trial_table: &[f64],
-    kernel: &[f64],
-    test_geometry: &[f64],
-    trial_geometry: &[f64],
-) -> LocalMatrix
-    requires { ⌜ TouchingFits f «test_dim» «trial_dim» (touching «points» (now «weights») (now «test_table») (now «trial_table») (now «kernel») (now «test_geometry») (now «trial_geometry»)) ⌝ }
-    ensures { λ r. ⌜ TouchingEntries f «test_dim» «trial_dim» (touching «points» (now («weights» .entry)) (now («test_table» .entry)) (now («trial_table» .entry)) (now («kernel» .entry)) (now («test_geometry» .entry)) (now («trial_geometry» .entry))) r ⌝ }
+// The k-th trial point that goes with test point t.
+fn pair_trial(apart: bool, t: usize, k: usize) -> usize
+    ensures { λ r. ⌜ r ≡ pairTrial apart t k ⌝ }
 {
-    let rows = integrands::table_rows(f);
-    let width = integrands::kernel_width(f);
-    let mut entries = [0.0; 100];
-    for q in 0..points {
-        touching_point(
-            &mut entries,
-            f,
-            width,
-            rows,
-            q,
-            test_dim,
-            trial_dim,
-            points,
-            weights,
-            test_table,
-            trial_table,
-            kernel,
-            test_geometry,
-            trial_geometry,
-        );
+    if apart {
+        return k;
     }
-    LocalMatrix {
-        entries: entries,
-        test_dim: test_dim,
-        trial_dim: trial_dim,
-    }
+    t
 }
 
-// What test point t and trial point r add to each entry: value·(trial weight·trial jdet)·v, where v is test weight·test jdet.
-fn distant_point(
+// Where the kernel values of test point t and trial point r stand, in steps of their width.
+fn pair_place(apart: bool, test_points: usize, t: usize, r: usize) -> usize
+    requires { ⌜ (apart ≡ true → («test_points» * r ≤ 4096) × (t + «test_points» * r ≤ 4096)) ⌝ }
+    ensures { λ x. ⌜ x ≡ pairPlace apart «test_points» t r ⌝ }
+{
+    if apart {
+        return t + test_points * r;
+    }
+    t
+}
+
+// value·(weight·(test jdet·trial jdet)) touching, value·(trial weight·trial jdet)·(test weight·test jdet) distant.
+fn pair_weight(
+    apart: bool,
+    t: usize,
+    r: usize,
+    test_jdet: f64,
+    trial_jdet: f64,
+    test_weights: &[f64],
+    trial_weights: &[f64],
+) -> Weight
+    requires { ⌜ (t < length (now «test_weights»)) × (apart ≡ true → r < length (now «trial_weights»)) ⌝ }
+    ensures { λ x. ⌜ x ≡ pairWeight apart (now («test_weights» .entry) ! t) «test_jdet» (now («trial_weights» .entry) ! r) «trial_jdet» ⌝ }
+{
+    if apart {
+        let w = trial_weights[r] * trial_jdet;
+        let v = test_weights[t] * test_jdet;
+        return Weight::Twice(w, v);
+    }
+    let w = test_weights[t] * (test_jdet * trial_jdet);
+    Weight::Once(w)
+}
+
+// What test point t and its k-th trial point add to each entry.
+fn pair_point(
     entries: &mut [f64; 100],
     f: Integrand,
+    apart: bool,
     width: usize,
     rows: usize,
     t: usize,
-    r: usize,
+    k: usize,
     test: Geometry,
-    v: f64,
     test_dim: usize,
     trial_dim: usize,
     test_points: usize,
@@ -642,21 +610,30 @@ fn distant_point(
     test_geometry: &[f64],
     trial_geometry: &[f64],
 )
-    requires { ⌜ (t < «test_points») × (r < «trial_points») × (width ≡ kernelWidth f) × (rows ≡ tableRows f)
-        × (test ≡ geometryAt (now «test_geometry») t) × (v ≡ now «test_weights» ! t ⊗ test .jdet)
-        × DistantFits f «test_dim» «trial_dim» (distant «test_points» «trial_points» (now «test_weights») (now «trial_weights») (now «test_table») (now «trial_table») (now «kernel») (now «test_geometry») (now «trial_geometry»))
-        × Held «test_dim» «trial_dim» (now entries) (λ (i j : ℕ). distantSum f (distant «test_points» «trial_points» (now «test_weights») (now «trial_weights») (now «test_table») (now «trial_table») (now «kernel») (now «test_geometry») (now «trial_geometry»)) i j t r) ⌝ }
-    ensures { λ _. ⌜ Held «test_dim» «trial_dim» (now (entries .exit)) (λ (i j : ℕ). distantSum f (distant «test_points» «trial_points» (now («test_weights» .entry)) (now («trial_weights» .entry)) (now («test_table» .entry)) (now («trial_table» .entry)) (now («kernel» .entry)) (now («test_geometry» .entry)) (now («trial_geometry» .entry))) i j t (r + 1)) ⌝ }
+    requires { ⌜ (t < «test_points») × (k < pairCount apart «trial_points») × (width ≡ kernelWidth f) × (rows ≡ tableRows f)
+        × (test ≡ geometryAt (now «test_geometry») t)
+        × PairFits apart f «test_dim» «trial_dim» (distant «test_points» «trial_points» (now «test_weights») (now «trial_weights») (now «test_table») (now «trial_table») (now «kernel») (now «test_geometry») (now «trial_geometry»))
+        × Held «test_dim» «trial_dim» (now entries) (λ (i j : ℕ). pairSum apart f (distant «test_points» «trial_points» (now «test_weights») (now «trial_weights») (now «test_table») (now «trial_table») (now «kernel») (now «test_geometry») (now «trial_geometry»)) i j t k) ⌝ }
+    ensures { λ _. ⌜ Held «test_dim» «trial_dim» (now (entries .exit)) (λ (i j : ℕ). pairSum apart f (distant «test_points» «trial_points» (now («test_weights» .entry)) (now («trial_weights» .entry)) (now («test_table» .entry)) (now («trial_table» .entry)) (now («kernel» .entry)) (now («test_geometry» .entry)) (now («trial_geometry» .entry))) i j t (k + 1)) ⌝ }
 {
+    let r = pair_trial(apart, t, k);
     let trial = integrands::geometry_at(trial_geometry, r);
-    let w = trial_weights[r] * trial.jdet;
-    let weight = Weight::Twice(w, v);
+    let weight = pair_weight(
+        apart,
+        t,
+        r,
+        test.jdet,
+        trial.jdet,
+        test_weights,
+        trial_weights,
+    );
+    let place = pair_place(apart, test_points, t, r);
     add_point(
         entries,
         f,
         weight,
         kernel,
-        width * (t + test_points * r),
+        width * place,
         test,
         trial,
         rows,
@@ -671,10 +648,11 @@ fn distant_point(
     );
 }
 
-// What test point t, with each trial point, adds to each entry.
-fn distant_row(
+// What test point t, with each of its trial points, adds to each entry.
+fn pair_row(
     entries: &mut [f64; 100],
     f: Integrand,
+    apart: bool,
     width: usize,
     rows: usize,
     t: usize,
@@ -691,22 +669,22 @@ fn distant_row(
     trial_geometry: &[f64],
 )
     requires { ⌜ (t < «test_points») × (width ≡ kernelWidth f) × (rows ≡ tableRows f)
-        × DistantFits f «test_dim» «trial_dim» (distant «test_points» «trial_points» (now «test_weights») (now «trial_weights») (now «test_table») (now «trial_table») (now «kernel») (now «test_geometry») (now «trial_geometry»))
-        × Held «test_dim» «trial_dim» (now entries) (λ (i j : ℕ). distantRows f (distant «test_points» «trial_points» (now «test_weights») (now «trial_weights») (now «test_table») (now «trial_table») (now «kernel») (now «test_geometry») (now «trial_geometry»)) i j t) ⌝ }
-    ensures { λ _. ⌜ Held «test_dim» «trial_dim» (now (entries .exit)) (λ (i j : ℕ). distantRows f (distant «test_points» «trial_points» (now («test_weights» .entry)) (now («trial_weights» .entry)) (now («test_table» .entry)) (now («trial_table» .entry)) (now («kernel» .entry)) (now («test_geometry» .entry)) (now («trial_geometry» .entry))) i j (t + 1)) ⌝ }
+        × PairFits apart f «test_dim» «trial_dim» (distant «test_points» «trial_points» (now «test_weights») (now «trial_weights») (now «test_table») (now «trial_table») (now «kernel») (now «test_geometry») (now «trial_geometry»))
+        × Held «test_dim» «trial_dim» (now entries) (λ (i j : ℕ). pairRows apart f (distant «test_points» «trial_points» (now «test_weights») (now «trial_weights») (now «test_table») (now «trial_table») (now «kernel») (now «test_geometry») (now «trial_geometry»)) i j t) ⌝ }
+    ensures { λ _. ⌜ Held «test_dim» «trial_dim» (now (entries .exit)) (λ (i j : ℕ). pairRows apart f (distant «test_points» «trial_points» (now («test_weights» .entry)) (now («trial_weights» .entry)) (now («test_table» .entry)) (now («trial_table» .entry)) (now («kernel» .entry)) (now («test_geometry» .entry)) (now («trial_geometry» .entry))) i j (t + 1)) ⌝ }
 {
     let test = integrands::geometry_at(test_geometry, t);
-    let v = test_weights[t] * test.jdet;
-    for r in 0..trial_points {
-        distant_point(
+    let count = pair_count(apart, trial_points);
+    for k in 0..count {
+        pair_point(
             entries,
             f,
+            apart,
             width,
             rows,
             t,
-            r,
+            k,
             test,
-            v,
             test_dim,
             trial_dim,
             test_points,
@@ -722,8 +700,9 @@ fn distant_row(
     }
 }
 
-fn distant_general(
+fn pair_matrix(
     f: Integrand,
+    apart: bool,
     test_dim: usize,
     trial_dim: usize,
     test_points: usize,
@@ -736,16 +715,17 @@ fn distant_general(
     test_geometry: &[f64],
     trial_geometry: &[f64],
 ) -> LocalMatrix
-    requires { ⌜ DistantFits f «test_dim» «trial_dim» (distant «test_points» «trial_points» (now «test_weights») (now «trial_weights») (now «test_table») (now «trial_table») (now «kernel») (now «test_geometry») (now «trial_geometry»)) ⌝ }
-    ensures { λ r. ⌜ DistantEntries f «test_dim» «trial_dim» (distant «test_points» «trial_points» (now («test_weights» .entry)) (now («trial_weights» .entry)) (now («test_table» .entry)) (now («trial_table» .entry)) (now («kernel» .entry)) (now («test_geometry» .entry)) (now («trial_geometry» .entry))) r ⌝ }
+    requires { ⌜ PairFits apart f «test_dim» «trial_dim» (distant «test_points» «trial_points» (now «test_weights») (now «trial_weights») (now «test_table») (now «trial_table») (now «kernel») (now «test_geometry») (now «trial_geometry»)) ⌝ }
+    ensures { λ r. ⌜ PairEntries apart f «test_dim» «trial_dim» (distant «test_points» «trial_points» (now («test_weights» .entry)) (now («trial_weights» .entry)) (now («test_table» .entry)) (now («trial_table» .entry)) (now («kernel» .entry)) (now («test_geometry» .entry)) (now («trial_geometry» .entry))) r ⌝ }
 {
     let rows = integrands::table_rows(f);
     let width = integrands::kernel_width(f);
     let mut entries = [0.0; 100];
     for t in 0..test_points {
-        distant_row(
+        pair_row(
             &mut entries,
             f,
+            apart,
             width,
             rows,
             t,
@@ -844,7 +824,7 @@ fn add_outer_3(
     }
 }
 
-// As `touching_point`.
+// What point q adds to each entry: value·(weight·(test jdet·trial jdet)).
 fn touching_plain_point(
     entries: &mut [f64; 100],
     f: Integrand,
@@ -1026,7 +1006,7 @@ fn add_outer_twice_3(
     }
 }
 
-// As `distant_point`.
+// What test point t and trial point r add to each entry: value·(trial weight·trial jdet)·v, where v is test weight·test jdet.
 fn distant_plain_point(
     entries: &mut [f64; 100],
     f: Integrand,
@@ -1094,7 +1074,7 @@ fn distant_plain_point(
     }
 }
 
-// As `distant_row`.
+// What test point t, with each trial point, adds to each entry.
 fn distant_plain_row(
     entries: &mut [f64; 100],
     f: Integrand,
@@ -1216,11 +1196,14 @@ pub fn touching_matrix(
 {
     let kind = integrands::plain_kind(f);
     if kind == 3 {
-        return touching_general(
+        return pair_matrix(
             f,
+            false,
             test_dim,
             trial_dim,
             points,
+            points,
+            weights,
             weights,
             test_table,
             trial_table,
@@ -1264,8 +1247,9 @@ pub fn distant_matrix(
 {
     let kind = integrands::plain_kind(f);
     if kind == 3 {
-        return distant_general(
+        return pair_matrix(
             f,
+            true,
             test_dim,
             trial_dim,
             test_points,

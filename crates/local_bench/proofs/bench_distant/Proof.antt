@@ -7,12 +7,6 @@ use Rattle.local_bench.specs.Facts.{few}
 use borrow.Author.Needs.{needs}
 use Rattle.local_bench.proofs.bench_distant.Statement.{statement}
 use Rattle.local_bench.proofs.bench_distant.Tie as tie
-use Rattle.local_bench.proofs.bench_distant.Reads as reads
-use Rattle.local_bench.proofs.bench_distant.Lts as lts
-use Rattle.cell_pair_assemblers.proofs.distant_matrix.Reads as distant-matrix-reads
-use Rattle.cell_pair_assemblers.proofs.distant_refusal.Reads as distant-refusal-reads
-use Rattle.local_bench.proofs.copy.Reads as copy-reads
-use Rattle.local_bench.proofs.term.Reads as term-reads
 
 returns : tie.Need-returns
 returns c = search needs

@@ -7,12 +7,6 @@ use Rattle.local_bench.specs.Facts.{few}
 use borrow.Author.Needs.{needs}
 use Rattle.local_bench.proofs.bench_touching.Statement.{statement}
 use Rattle.local_bench.proofs.bench_touching.Tie as tie
-use Rattle.local_bench.proofs.bench_touching.Reads as reads
-use Rattle.local_bench.proofs.bench_touching.Lts as lts
-use Rattle.cell_pair_assemblers.proofs.touching_matrix.Reads as touching-matrix-reads
-use Rattle.cell_pair_assemblers.proofs.touching_refusal.Reads as touching-refusal-reads
-use Rattle.local_bench.proofs.copy.Reads as copy-reads
-use Rattle.local_bench.proofs.term.Reads as term-reads
 
 returns : tie.Need-returns
 returns c = search needs

@@ -4,8 +4,6 @@ use lib.ListN.{length, length-set}
 use borrow.Author.Needs.{needs}
 use Rattle.local_bench.proofs.copy.Statement.{statement}
 use Rattle.local_bench.proofs.copy.Tie as tie
-use Rattle.local_bench.proofs.copy.Reads as reads
-use Rattle.local_bench.proofs.copy.Lts as lts
 
 abbrev Inv-loop : tie.InvT-loop
 Inv-loop out₀ entries count i₀ out i = i ≤ count
