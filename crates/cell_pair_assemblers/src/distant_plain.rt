@@ -1,0 +1,262 @@
+// The local matrix of a distant pair, for one term other than curl-curl: c·t·r goes into the sums at once.
+use crate::LocalMatrix;
+use integrands::Geometry;
+use integrands::Integrand;
+use integrands::Term;
+ghost use mathlib.Core.Path.{_≡_};
+ghost use Prim.Native.Nat.{ℕ, _+_, _*_, _<_, _≤_};
+ghost use lib.ListN.{length};
+ghost use lib.Ieee.{Float, nan};
+ghost use Rattle.lists.specs.Maps.{Mapped};
+ghost use Rattle.integrands.specs.Floats.{_⊕_, _⊗_, _!_};
+ghost use Rattle.integrands.specs.Terms.{kernelWidth, tableRows};
+ghost use Rattle.integrands.specs.Values.{geometryAt};
+ghost use Rattle.integrands.specs.Columns.{tableRow, Table, Held, Added};
+ghost use Rattle.integrands.specs.ValueFacts.{plainKind, factored};
+ghost use Rattle.cell_pair_assemblers.specs.Facts.{distant, DistantFits, DistantEntries, distantRows, distantSum};
+
+// One column: entry + c·t·r·w·v, with the term's factor before it.
+fn add_column_twice(
+    entries: &mut [f64; 100],
+    dim: usize,
+    j: usize,
+    term: Term,
+    scaled: &[f64; 10],
+    r: f64,
+    w: f64,
+    v: f64,
+)
+    requires { ⌜ (length (now entries) ≡ 100) × (dim ≤ 10) × (j < 10) ⌝ }
+    ensures { λ _. ⌜ Mapped nan (dim * j) dim (λ (i : ℕ) (x : Float). x ⊕ factored term (now (scaled .entry) ! i ⊗ r) ⊗ w ⊗ v) (now (entries .entry)) (now (entries .exit)) ⌝ }
+{
+    for i in 0..dim {
+        let value = integrands::factored(term, scaled[i] * r);
+        entries[i + dim * j] = entries[i + dim * j] + value * w * v;
+    }
+}
+
+// entry + c·t·r·w·v, with the term's factor before it, of each entry.
+fn add_outer_twice(
+    entries: &mut [f64; 100],
+    term: Term,
+    c: f64,
+    w: f64,
+    v: f64,
+    rows: usize,
+    test_table: &[f64],
+    test_points: usize,
+    p: usize,
+    test_dim: usize,
+    trial_table: &[f64],
+    trial_points: usize,
+    q: usize,
+    trial_dim: usize,
+)
+    requires { ⌜ (length (now entries) ≡ 100) × Table rows «test_points» p «test_dim» (now «test_table») × Table rows «trial_points» q «trial_dim» (now «trial_table») ⌝ }
+    ensures { λ _. ⌜ Added «test_dim» «trial_dim» (now (entries .entry)) (now (entries .exit)) (λ (i j : ℕ).
+        factored term (c ⊗ tableRow (now («test_table» .entry)) rows «test_points» p i 0 ⊗ tableRow (now («trial_table» .entry)) rows «trial_points» q j 0) ⊗ w ⊗ v) ⌝ }
+{
+    let mut scaled = [0.0; 10];
+    integrands::scaled_rows(&mut scaled, c, test_table, rows, test_points, p, test_dim);
+    for j in 0..trial_dim {
+        let r = integrands::table_value(trial_table, rows, trial_points, q, j, 0);
+        add_column_twice(entries, test_dim, j, term, &scaled, r, w, v);
+    }
+}
+
+// As `add_outer_twice`, for three basis functions on either side: the compiler knows the bounds.
+fn add_outer_twice_3(
+    entries: &mut [f64; 100],
+    term: Term,
+    c: f64,
+    w: f64,
+    v: f64,
+    rows: usize,
+    test_table: &[f64],
+    test_points: usize,
+    p: usize,
+    trial_table: &[f64],
+    trial_points: usize,
+    q: usize,
+)
+    requires { ⌜ (length (now entries) ≡ 100) × Table rows «test_points» p 3 (now «test_table») × Table rows «trial_points» q 3 (now «trial_table») ⌝ }
+    ensures { λ _. ⌜ Added 3 3 (now (entries .entry)) (now (entries .exit)) (λ (i j : ℕ).
+        factored term (c ⊗ tableRow (now («test_table» .entry)) rows «test_points» p i 0 ⊗ tableRow (now («trial_table» .entry)) rows «trial_points» q j 0) ⊗ w ⊗ v) ⌝ }
+{
+    let mut scaled = [0.0; 10];
+    integrands::scaled_rows(&mut scaled, c, test_table, rows, test_points, p, 3);
+    for j in 0..3 {
+        let r = integrands::table_value(trial_table, rows, trial_points, q, j, 0);
+        add_column_twice(entries, 3, j, term, &scaled, r, w, v);
+    }
+}
+
+// What test point t and trial point r add to each entry: value·(trial weight·trial jdet)·v, where v is test weight·test jdet.
+fn distant_plain_point(
+    entries: &mut [f64; 100],
+    f: Integrand,
+    kind: u32,
+    width: usize,
+    rows: usize,
+    t: usize,
+    r: usize,
+    test: Geometry,
+    v: f64,
+    test_dim: usize,
+    trial_dim: usize,
+    test_points: usize,
+    trial_points: usize,
+    test_weights: &[f64],
+    trial_weights: &[f64],
+    test_table: &[f64],
+    trial_table: &[f64],
+    kernel: &[f64],
+    test_geometry: &[f64],
+    trial_geometry: &[f64],
+)
+    requires { ⌜ (t < «test_points») × (r < «trial_points») × (width ≡ kernelWidth f) × (rows ≡ tableRows f) × (kind ≡ plainKind f) × (kind ≡ 3 → ⊥)
+        × (test ≡ geometryAt (now «test_geometry») t) × (v ≡ now «test_weights» ! t ⊗ test .jdet)
+        × DistantFits f «test_dim» «trial_dim» (distant «test_points» «trial_points» (now «test_weights») (now «trial_weights») (now «test_table») (now «trial_table») (now «kernel») (now «test_geometry») (now «trial_geometry»))
+        × Held «test_dim» «trial_dim» (now entries) (λ (i j : ℕ). distantSum f (distant «test_points» «trial_points» (now «test_weights») (now «trial_weights») (now «test_table») (now «trial_table») (now «kernel») (now «test_geometry») (now «trial_geometry»)) i j t r) ⌝ }
+    ensures { λ _. ⌜ Held «test_dim» «trial_dim» (now (entries .exit)) (λ (i j : ℕ). distantSum f (distant «test_points» «trial_points» (now («test_weights» .entry)) (now («trial_weights» .entry)) (now («test_table» .entry)) (now («trial_table» .entry)) (now («kernel» .entry)) (now («test_geometry» .entry)) (now («trial_geometry» .entry))) i j t (r + 1)) ⌝ }
+{
+    let trial = integrands::geometry_at(trial_geometry, r);
+    let first = f.first;
+    let c = integrands::coefficient(kind, kernel, width * (t + test_points * r), test, trial);
+    let w = trial_weights[r] * trial.jdet;
+    if (test_dim == 3) & (trial_dim == 3) {
+        add_outer_twice_3(
+            entries,
+            first,
+            c,
+            w,
+            v,
+            rows,
+            test_table,
+            test_points,
+            t,
+            trial_table,
+            trial_points,
+            r,
+        );
+    } else {
+        add_outer_twice(
+            entries,
+            first,
+            c,
+            w,
+            v,
+            rows,
+            test_table,
+            test_points,
+            t,
+            test_dim,
+            trial_table,
+            trial_points,
+            r,
+            trial_dim,
+        );
+    }
+}
+
+// What test point t, with each trial point, adds to each entry.
+fn distant_plain_row(
+    entries: &mut [f64; 100],
+    f: Integrand,
+    kind: u32,
+    width: usize,
+    rows: usize,
+    t: usize,
+    test_dim: usize,
+    trial_dim: usize,
+    test_points: usize,
+    trial_points: usize,
+    test_weights: &[f64],
+    trial_weights: &[f64],
+    test_table: &[f64],
+    trial_table: &[f64],
+    kernel: &[f64],
+    test_geometry: &[f64],
+    trial_geometry: &[f64],
+)
+    requires { ⌜ (t < «test_points») × (width ≡ kernelWidth f) × (rows ≡ tableRows f) × (kind ≡ plainKind f) × (kind ≡ 3 → ⊥)
+        × DistantFits f «test_dim» «trial_dim» (distant «test_points» «trial_points» (now «test_weights») (now «trial_weights») (now «test_table») (now «trial_table») (now «kernel») (now «test_geometry») (now «trial_geometry»))
+        × Held «test_dim» «trial_dim» (now entries) (λ (i j : ℕ). distantRows f (distant «test_points» «trial_points» (now «test_weights») (now «trial_weights») (now «test_table») (now «trial_table») (now «kernel») (now «test_geometry») (now «trial_geometry»)) i j t) ⌝ }
+    ensures { λ _. ⌜ Held «test_dim» «trial_dim» (now (entries .exit)) (λ (i j : ℕ). distantRows f (distant «test_points» «trial_points» (now («test_weights» .entry)) (now («trial_weights» .entry)) (now («test_table» .entry)) (now («trial_table» .entry)) (now («kernel» .entry)) (now («test_geometry» .entry)) (now («trial_geometry» .entry))) i j (t + 1)) ⌝ }
+{
+    let test = integrands::geometry_at(test_geometry, t);
+    let v = test_weights[t] * test.jdet;
+    for r in 0..trial_points {
+        distant_plain_point(
+            entries,
+            f,
+            kind,
+            width,
+            rows,
+            t,
+            r,
+            test,
+            v,
+            test_dim,
+            trial_dim,
+            test_points,
+            trial_points,
+            test_weights,
+            trial_weights,
+            test_table,
+            trial_table,
+            kernel,
+            test_geometry,
+            trial_geometry,
+        );
+    }
+}
+
+pub fn distant_plain(
+    f: Integrand,
+    kind: u32,
+    test_dim: usize,
+    trial_dim: usize,
+    test_points: usize,
+    trial_points: usize,
+    test_weights: &[f64],
+    trial_weights: &[f64],
+    test_table: &[f64],
+    trial_table: &[f64],
+    kernel: &[f64],
+    test_geometry: &[f64],
+    trial_geometry: &[f64],
+) -> LocalMatrix
+    requires { ⌜ (kind ≡ plainKind f) × (kind ≡ 3 → ⊥) × DistantFits f «test_dim» «trial_dim» (distant «test_points» «trial_points» (now «test_weights») (now «trial_weights») (now «test_table») (now «trial_table») (now «kernel») (now «test_geometry») (now «trial_geometry»)) ⌝ }
+    ensures { λ r. ⌜ DistantEntries f «test_dim» «trial_dim» (distant «test_points» «trial_points» (now («test_weights» .entry)) (now («trial_weights» .entry)) (now («test_table» .entry)) (now («trial_table» .entry)) (now («kernel» .entry)) (now («test_geometry» .entry)) (now («trial_geometry» .entry))) r ⌝ }
+{
+    let rows = integrands::table_rows(f);
+    let width = integrands::kernel_width(f);
+    let mut entries = [0.0; 100];
+    for t in 0..test_points {
+        distant_plain_row(
+            &mut entries,
+            f,
+            kind,
+            width,
+            rows,
+            t,
+            test_dim,
+            trial_dim,
+            test_points,
+            trial_points,
+            test_weights,
+            trial_weights,
+            test_table,
+            trial_table,
+            kernel,
+            test_geometry,
+            trial_geometry,
+        );
+    }
+    LocalMatrix {
+        entries: entries,
+        test_dim: test_dim,
+        trial_dim: trial_dim,
+    }
+}
