@@ -1,8 +1,8 @@
--- The values of a point for each pair of basis functions, in one list: test basis i and trial basis j at i + m·j. And reads of a table. Assumes nothing.
+-- Numbers for each pair of basis functions, in one list: test basis i and trial basis j at i + m·j. And reads of a table. Assumes nothing.
 use Prim.Native.Nat.{ℕ, _+_, _*_, _<_, _≤_}
 use native.Mathlib.Nat.{mul-le-mul-left}
 use native.Mathlib.Omega.{arith}
-use mathlib.Core.Path.{_≡_, refl, sym, subst, _∙_, ap, ap₂}
+use mathlib.Core.Path.{_≡_, refl, _∙_, ap}
 use mathlib.Core.Logic.{⊎-elim}
 use mathlib.Core.List.{List}
 use lib.ListN.{length}
@@ -15,7 +15,7 @@ use lib.Dec.{eqb}
 use borrow.Author.Tests.{eq-eqb}
 use Rattle.lists.specs.Bool.{_and_, _or_, cases, or-left, or-right, and-both}
 use Rattle.integrands.specs.declared.Integrand.{Integrand}
-use Rattle.integrands.specs.Floats.{_⊕_, _⊗_, _⊘_, _!_}
+use Rattle.integrands.specs.Floats.{_⊕_, _!_}
 use Rattle.integrands.specs.Terms.{kindOf, secondRead, anyKind, kernelWidth, tableRows}
 
 -- row i of basis b at point p, of a table with D rows and P points
@@ -48,30 +48,6 @@ reach-place {D} {P} {p} {b} h = in-table b (h .point) (h .rows) (h .reach)
 pub record Held (m n : ℕ) (values : List Float) (v : ℕ → ℕ → Float) : Type 0 where
   pub size : length values ≡ 100
   pub at : (i j : ℕ) → i < m → j < n → values ! (i + m * j) ≡ v i j
-
-pub held-none : {m : ℕ} {values : List Float} {v : ℕ → ℕ → Float} → length values ≡ 100 → Held m 0 values v
-held-none e = record { size = e; at = λ i j h l. absurd (omega arith) }
-
--- one column more
-pub held-turn : {m j : ℕ} {xs ys : List Float} {v : ℕ → ℕ → Float} {g : ℕ → Float → Float}
-    → Held m j xs v → Mapped nan (m * j) m g xs ys → ((i : ℕ) (x : Float) → i < m → g i x ≡ v i j) → Held m (j + 1) ys v
-held-turn {m} {j} {xs} {ys} {v} {g} h w e = record { size = w .same-length ∙ h .size; at = λ i k l b. ⊎-elim (λ q. here i k l q) (λ q. earlier i k l b q) (eq-or-ne k j) }
-  where
-    here : (i k : ℕ) → i < m → k ≡ j → ys ! (i + m * k) ≡ v i k
-    here i k l q = rw q (mapped-at w i (i + m * j) l (omega arith) ∙ e i (xs ! (i + m * j)) l)
-
-    earlier : (i k : ℕ) → i < m → k < j + 1 → (k ≡ j → ⊥) → ys ! (i + m * k) ≡ v i k
-    earlier i k l b q = w .front (i + m * k) (in-rectangle m j i k l (omega arith)) ∙ h .at i k l (omega arith)
-
--- the values of each pair mapped by one function
-pub held-map : {m n : ℕ} {xs ys : List Float} {v : ℕ → ℕ → Float} {g : ℕ → Float → Float} (u : ℕ → ℕ → Float)
-    → Held m n xs v → Mapped nan 0 (m * n) g xs ys → ((i j : ℕ) → i < m → j < n → g (i + m * j) (v i j) ≡ u i j) → Held m n ys u
-held-map {m} {n} {xs} {ys} {v} {g} u h w e = record { size = w .same-length ∙ h .size; at = at }
-  where
-    at : (i j : ℕ) → i < m → j < n → ys ! (i + m * j) ≡ u i j
-    at i j l b =
-        mapped-at w (i + m * j) (i + m * j) (in-rectangle m n i j l b) (omega arith)
-        ∙ subst (λ (x : Float). g (i + m * j) x ≡ u i j) (sym (h .at i j l b)) (e i j l b)
 
 -- the same values, by another name
 pub held-as : {m n : ℕ} {xs : List Float} {v u : ℕ → ℕ → Float} → Held m n xs v → ((i j : ℕ) → i < m → j < n → v i j ≡ u i j) → Held m n xs u
@@ -133,12 +109,6 @@ module _ (f : Integrand) where
 
     pub second-reads : secondRead f ≡ true → Reads (kindOf (f .second)) at (tableRows f) kernel
     second-reads two = reads (kindOf (f .second)) (any-second two)
-
--- curl-curl from curls worked out before
-pub curl-value : (k0 s r : Float) {x0 x1 x2 y0 y1 y2 b0 b1 b2 c0 c1 c2 : Float} → x0 ≡ y0 → x1 ≡ y1 → x2 ≡ y2 → b0 ≡ c0 → b1 ≡ c1 → b2 ≡ c2
-    → k0 ⊗ (x0 ⊗ b0 ⊕ x1 ⊗ b1 ⊕ x2 ⊗ b2) ⊘ s ⊘ r ≡ k0 ⊗ (y0 ⊗ c0 ⊕ y1 ⊗ c1 ⊕ y2 ⊗ c2) ⊘ s ⊘ r
-curl-value k0 s r p0 p1 p2 q0 q1 q2 =
-    ap (λ (x : Float). k0 ⊗ x ⊘ s ⊘ r) (ap₂ _⊕_ (ap₂ _⊕_ (ap₂ _⊗_ p0 q0) (ap₂ _⊗_ p1 q1)) (ap₂ _⊗_ p2 q2))
 
 -- u is added to each of the first n columns of xs, and the rest stays
 pub record Added (m n : ℕ) (xs ys : List Float) (u : ℕ → ℕ → Float) : Type 0 where

@@ -75,8 +75,7 @@ pub extern "C" fn bench_touching(
         test_geometry,
         trial_geometry,
     );
-    let values = local.entries;
-    copy(entries, &values, m * n);
+    copy(entries, &local.entries, m * n);
     0
 }
 
@@ -141,7 +140,6 @@ pub extern "C" fn bench_distant(
         test_geometry,
         trial_geometry,
     );
-    let values = local.entries;
-    copy(entries, &values, m * n);
+    copy(entries, &local.entries, m * n);
     0
 }
