@@ -197,29 +197,32 @@ static void compare(const struct form *f, int distant, size_t dim, size_t points
     struct lent a = {dim, dim, points, points, numbers(points, 0, 1), numbers(points, 0, 1), numbers(3 * points * dim, -1, 1), numbers(3 * points * dim, -1, 1),
         numbers(4 * points * points, -1, 1), numbers(10 * points, 0.5, 1), numbers(10 * points, 0.5, 1), entries[0]};
     double best[3] = {1e18, 1e18, 1e18};
+    int turns[3];
     for (int which = 0; which < 3; which++) {
         a.entries = entries[which];
         double guess = once(f, distant, which, &a, 3);
+        turns[which] = guess > 20000 ? 1 : (int)(20000 / guess) + 1;
         if (memcmp(entries[0], entries[which], dim * dim * sizeof(double))) {
             fprintf(stderr, "%s %s %zu %zu: another result\n", distant ? "distant" : "touching", f->name, dim, points);
             exit(1);
         }
-        int turns = guess > 20000 ? 1 : (int)(20000 / guess) + 1;
-        for (int k = 0; k < rounds; k++) {
-            double t = once(f, distant, which, &a, turns);
+    }
+    for (int k = 0; k < rounds; k++)
+        for (int which = 0; which < 3; which++) {
+            a.entries = entries[which];
+            double t = once(f, distant, which, &a, turns[which]);
             if (t < best[which]) best[which] = t;
         }
-    }
     printf("%s %-10s %2zu %2zu %9.0f %9.0f %9.0f  %5.2f %5.2f\n", distant ? "distant " : "touching", f->name, dim, points, best[0], best[1], best[2],
         best[0] / best[1], best[0] / best[2]);
     const double *all[] = {a.test_weights, a.trial_weights, a.test_table, a.trial_table, a.kernel, a.test_geometry, a.trial_geometry};
     for (int k = 0; k < 7; k++) free((void *)all[k]);
 }
 
-// Arguments: rounds (40), and the only dim and the only number of points to time (0: all).
+// Arguments: rounds (400), and the only dim and the only number of points to time (0: all).
 int main(int argc, char **argv) {
     static const size_t dims[] = {1, 3, 6, 10}, counts[] = {1, 6, 16, 37};
-    int rounds = argc > 1 ? atoi(argv[1]) : 40;
+    int rounds = argc > 1 ? atoi(argv[1]) : 400;
     size_t dim = argc > 2 ? (size_t)atoi(argv[2]) : 0, points = argc > 3 ? (size_t)atoi(argv[3]) : 0;
     for (int distant = 0; distant < 2; distant++)
         for (size_t f = 0; f < sizeof forms / sizeof *forms; f++)
