@@ -1,4 +1,5 @@
-// Local matrices for a C program to time: bench/local_matrices.c. The functions write m·n entries, or answer the check that turns the pair down.
+// Local matrices for a C program to time: bench/local_matrices.c, which compares each entry with its own. Nothing but safety is proved of these functions; they
+// write m·n entries, or answer the check that turns the pair down (4: a dim).
 use integrands::Integrand;
 use integrands::Term;
 ghost use mathlib.Core.Path.{_≡_};
