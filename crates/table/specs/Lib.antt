@@ -1,0 +1,2 @@
+-- Reads of a lent table (`Rows`).
+pub mod Rows
