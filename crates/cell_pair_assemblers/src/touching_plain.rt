@@ -9,7 +9,8 @@ ghost use lib.Ieee.{Float, nan};
 ghost use Rattle.lists.specs.Maps.{Mapped};
 ghost use Rattle.integrands.specs.Floats.{_⊕_, _⊗_, _!_};
 ghost use Rattle.integrands.specs.Terms.{kernelWidth, tableRows};
-ghost use Rattle.integrands.specs.Columns.{tableRow, Table, Held, Added};
+ghost use Rattle.table.specs.Rows.{tableRow};
+ghost use Rattle.integrands.specs.Columns.{Table, Held, Added};
 ghost use Rattle.integrands.specs.ValueFacts.{plainKind, factored};
 ghost use Rattle.cell_pair_assemblers.specs.Facts.{touching, TouchingFits, TouchingEntries, touchingSum};
 
@@ -55,7 +56,7 @@ fn add_outer(
     let mut scaled = [0.0; 10];
     integrands::scaled_rows(&mut scaled, c, test_table, rows, test_points, p, test_dim);
     for j in 0..trial_dim {
-        let r = integrands::table_value(trial_table, rows, trial_points, q, j, 0);
+        let r = table::table_value(trial_table, rows, trial_points, q, j, 0);
         add_column(entries, test_dim, j, term, &scaled, r, w);
     }
 }
@@ -81,7 +82,7 @@ fn add_outer_3(
     let mut scaled = [0.0; 10];
     integrands::scaled_rows(&mut scaled, c, test_table, rows, test_points, p, 3);
     for j in 0..3 {
-        let r = integrands::table_value(trial_table, rows, trial_points, q, j, 0);
+        let r = table::table_value(trial_table, rows, trial_points, q, j, 0);
         add_column(entries, 3, j, term, &scaled, r, w);
     }
 }

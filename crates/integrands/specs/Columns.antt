@@ -1,4 +1,4 @@
--- Numbers for each pair of basis functions, in one list: test basis i and trial basis j at i + m·j. And reads of a table. Assumes nothing.
+-- Numbers for each pair of basis functions, in one list: test basis i and trial basis j at i + m·j. And tables that reach. Assumes nothing.
 use Prim.Native.Nat.{ℕ, _+_, _*_, _<_, _≤_}
 use native.Mathlib.Nat.{mul-le-mul-left}
 use native.Mathlib.Omega.{arith}
@@ -14,19 +14,10 @@ use mathlib.Core.Bool.{Bool, true}
 use lib.Dec.{eqb}
 use borrow.Author.Tests.{eq-eqb}
 use Rattle.lists.specs.Bool.{_and_, _or_, cases, or-left, or-right, and-both}
+use Rattle.table.specs.Rows.{Reach}
 use Rattle.integrands.specs.declared.Integrand.{Integrand}
 use Rattle.integrands.specs.Floats.{_⊕_, _!_}
 use Rattle.integrands.specs.Terms.{kindOf, secondRead, anyKind, kernelWidth, tableRows}
-
--- row i of basis b at point p, of a table with D rows and P points
-abbrev pub tableRow : List Float → ℕ → ℕ → ℕ → ℕ → ℕ → Float
-tableRow table D P p b i = table ! (i + D * (p + P * b))
-
--- p is one of P points, and the table reaches past basis b
-pub record Reach (D P p b : ℕ) (table : List Float) : Type 0 where
-  pub point : p < P
-  pub rows : 1 ≤ D
-  pub reach : D * (P * (b + 1)) ≤ length table
 
 -- the table has dim basis functions
 pub record Table (D P p dim : ℕ) (table : List Float) : Type 0 where
@@ -38,11 +29,6 @@ pub record Table (D P p dim : ℕ) (table : List Float) : Type 0 where
 pub table-reach : {D P p dim : ℕ} {table : List Float} → Table D P p dim table → (b : ℕ) → b < dim → Reach D P p b table
 table-reach {D} {P} {p} {dim} {table} h b l =
     record { point = h .point; rows = h .rows; reach = omega (arith, h .reach, mul-le-mul-left D (mul-le-mul-left P l)) }
-
--- where a row is read
-pub reach-place : {D P p b : ℕ} {table : List Float} → Reach D P p b table
-    → (P * b ≤ length table) × (p + P * b ≤ length table) × (D * (p + P * b) + D ≤ length table)
-reach-place {D} {P} {p} {b} h = in-table b (h .point) (h .rows) (h .reach)
 
 -- the list holds the value of each pair, of m test and n trial basis functions
 pub record Held (m n : ℕ) (values : List Float) (v : ℕ → ℕ → Float) : Type 0 where

@@ -9,7 +9,8 @@ use Rattle.lists.specs.Maps.{mapped-at}
 use lib.Ieee as Ieee
 use Rattle.integrands.specs.Floats.{0·0, _⊕_, _⊗_}
 use Rattle.integrands.specs.ValueFacts.{factored}
-use Rattle.integrands.specs.Columns.{tableRow, table-reach, Added, added-none, added-turn}
+use Rattle.table.specs.Rows.{tableRow}
+use Rattle.integrands.specs.Columns.{table-reach, Added, added-none, added-turn}
 use borrow.Author.Needs.{needs}
 use Rattle.cell_pair_assemblers.proofs.touching_plain.add_outer_3.Statement.{statement}
 use Rattle.cell_pair_assemblers.proofs.touching_plain.add_outer_3.Tie as tie
