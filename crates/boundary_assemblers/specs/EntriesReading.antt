@@ -4,13 +4,18 @@ use Prim.Native.Nat.{ℕ, zero, suc, _+_, _-_, _*_, _≤_, _<_}
 use native.Mathlib.Nat.{zero-mul, add-mul, mul-assoc, one-mul}
 use native.Mathlib.Omega.{arith}
 use mathlib.Core.Path.{_≡_, refl, sym, ap, ap₂, _∙_}
+use mathlib.Core.Bool.{Bool, true, false, not, cond}
 use mathlib.Core.List.{List, [], _∷_, _++_, flatMap, append-nil, append-assoc}
 use lib.ListN.{length, getD, take, length-append}
 use lib.Seq.{sets, take-all, getD-append-add}
+use lib.Dec.{eqb}
 use lib.Ieee.{Float}
+use borrow.Author.Tests.{eqb-true}
+use Rattle.lists.specs.Bool.{and-left, and-right}
+use Rattle.lists.specs.Refusals.{refusal, unless}
 use Rattle.lists.specs.Range.{flatMap-append, flatMap-one, flatMap-take}
 use Rattle.lists.specs.Stores.{sets-append, sets-all}
-use Rattle.lists.specs.Fold.{over}
+use Rattle.lists.specs.Fold.{over, over-snoc}
 use Rattle.function.specs.Colours.{colourList}
 use Rattle.function.specs.NumberingPromises.{dof-list-length}
 use Rattle.cell_pair_assemblers.specs.Lent.{Touching}
@@ -20,14 +25,15 @@ use Rattle.pair_counts.specs.Counting.{split, length-distant, length-touching, 
 use Rattle.local_matrix.specs.Adding.{localRows, localColumns, localValues}
 use Rattle.local_matrix.specs.AddingFacts.{length-localRows, length-localColumns, length-localValues}
 use Rattle.boundary_assemblers.specs.Planning.{Planning, Lists, planRefusal, testSpace, trialSpace, workRecords, unlessRefused}
-use Rattle.boundary_assemblers.specs.Runs.{EntryLists}
+use Rattle.boundary_assemblers.specs.Runs.{EntryLists, found, refused}
 use Rattle.boundary_assemblers.specs.RunFacts.{cell-fits}
 use Rattle.boundary_assemblers.specs.AddFacts.{length-cell-is}
 use Rattle.boundary_assemblers.specs.Accepted.{accepted}
 use Rattle.boundary_assemblers.specs.Machine.{Machine, machineOf}
-use Rattle.boundary_assemblers.specs.EntriesMachine.{EntriesCall, looks, writes, EntriesState, recordIn, testDofsIn, trialDofsIn, entriesRefusal, entriesWritten, entriesStep, fresh, entriesRun}
+use Rattle.boundary_assemblers.specs.EntriesMachine.{EntriesCall, looks, writes, EntriesState, recordIn, testDofsIn, trialDofsIn, sized, answerTo, entriesRefusal, entriesWritten, entriesStep, fresh, entriesRun}
 use Rattle.boundary_assemblers.specs.Whole.{Right, pairCount, kept}
 use Rattle.boundary_assemblers.specs.PlanRight.{right, counted}
+use Rattle.boundary_assemblers.specs.Reading.{lookAt}
 use Rattle.boundary_assemblers.specs.EntriesWhole.{Between, write-below, fresh-between}
 
 module _ (m : Machine) where
@@ -231,23 +237,53 @@ module _ (x : Planning) (l : Lists) (z : planRefusal x l ≡ 0) where
   unfolding entriesRun
   entries-reading calls e = held-run e [] calls (fresh m e) (held-fresh e) .lists
 
-  -- all together, once a look answers 20: the lists are the entries of the touching records in work order
-  pub entries-all : (calls : List EntriesCall) (e : EntryLists) → entriesRun m calls e .position ≡ pairCount x
-      → length (e .rows) ≡ sharingPairs (x .mesh) * w → length (e .columns) ≡ sharingPairs (x .mesh) * w → length (e .values) ≡ sharingPairs (x .mesh) * w
+  -- the position is between N and C·C
+  pub entries-between : (calls : List EntriesCall) (e : EntryLists) → Between x (entriesRun m calls e .position)
+  unfolding entriesRun
+  entries-between calls e = held-run e [] calls (fresh m e) (held-fresh e) .between
+
+  look-step : (s : EntriesState) → entriesStep m looks s .answers ≡ s .answers ++ (lookAt m (s .position) ∷ [])
+  unfolding entriesStep entriesRefusal refusal unless lookAt
+  look-step s = go (eqb (s .position) (m .pairs))
+    where
+      go : (b : Bool) → s .answers ++ (answerTo m (unless (not b) 20 0) s looks ∷ []) ≡ s .answers ++ (cond b (refused 20) (found (recordIn m s)) ∷ [])
+      go true = refl
+      go false = refl
+
+  -- every look, after whatever calls, is answered record p, or 20 after the last
+  pub entries-look : (calls : List EntriesCall) (e : EntryLists)
+      → entriesRun m (calls ++ (looks ∷ [])) e .answers ≡ entriesRun m calls e .answers ++ (lookAt m (entriesRun m calls e .position) ∷ [])
+  unfolding entriesRun
+  entries-look calls e =
+      ap (λ (s : EntriesState). s .answers) (over-snoc (entriesStep m) calls looks (fresh m e)) ∙ look-step (over (entriesStep m) calls (fresh m e))
+
+  -- 21 passes: the lists have room for the entries of all touching records
+  lists-long : (e : EntryLists) → sized m e ≡ true → (n : ℕ) → n ≡ sharingPairs (x .mesh) → (length (e .rows) ≡ n * w) × (length (e .columns) ≡ n * w) × (length (e .values) ≡ n * w)
+  unfolding sized machineOf
+  lists-long e h n q =
+      let all : (pairCount x - N) * m .testDim * m .trialDim ≡ n * w = place-is (pairCount x) N n (m .testDim) (m .trialDim) (omega (arith, split (x .mesh), q)) in (
+        eqb-true _ _ (and-left _ _ (and-left _ _ h)) ∙ all,
+        eqb-true _ _ (and-right _ _ (and-left _ _ h)) ∙ all,
+        eqb-true _ _ (and-right _ _ h) ∙ all,
+      )
+
+  -- all together: on lists of the right length, where a look is answered 20, the lists are the entries of the touching records in work order
+  pub entries-all : (calls : List EntriesCall) (e : EntryLists) → sized m e ≡ true → entriesRun m calls e .position ≡ pairCount x
       → entriesRun m calls e .lists
       ≡ record { rows = flatMap (recordRows m) T; columns = flatMap (recordColumns m) T; values = flatMap (callValues m) (acceptedWrites m calls (fresh m e)) }
   unfolding entriesOf
-  entries-all calls e end rows columns values =
+  entries-all calls e right-size end =
       let ws : List Touching = acceptedWrites m calls (fresh m e) in
       let all : length ws ≡ sharingPairs (x .mesh) = omega (arith, entries-position calls e, split (x .mesh)) in
       let whole : take (length ws) T ≡ T = take-all (length ws) T (omega (arith, long)) in
+      let lengths = lists-long e right-size (length ws) all in
       entries-reading calls e
       ∙ lists-are
-      (ap (λ (t : List Rec). sets (e .rows) 0 (flatMap (recordRows m) t)) whole ∙ sets-all (e .rows) _ (all-blocks (recordRows m) rows-long ∙ sym rows))
-      (ap (λ (t : List Rec). sets (e .columns) 0 (flatMap (recordColumns m) t)) whole ∙ sets-all (e .columns) _ (all-blocks (recordColumns m) columns-long ∙ sym columns))
-      (sets-all (e .values) _ (blocks-long (callValues m) w values-long ws ∙ ap (λ (n : ℕ). n * w) all ∙ sym values))
+      (ap (λ (t : List Rec). sets (e .rows) 0 (flatMap (recordRows m) t)) whole ∙ sets-all (e .rows) _ (all-blocks (recordRows m) rows-long (length ws) all ∙ sym (lengths .0)))
+      (ap (λ (t : List Rec). sets (e .columns) 0 (flatMap (recordColumns m) t)) whole ∙ sets-all (e .columns) _ (all-blocks (recordColumns m) columns-long (length ws) all ∙ sym (lengths .1)))
+      (sets-all (e .values) _ (blocks-long (callValues m) w values-long ws ∙ sym (lengths .2)))
     where
-      all-blocks : (f : Rec → List ℕ) → ((j : ℕ) → j < length T → length (f (getD T j (rec 0 0 0))) ≡ w) → length (flatMap f T) ≡ sharingPairs (x .mesh) * w
-      all-blocks f h =
+      all-blocks : (f : Rec → List ℕ) → ((j : ℕ) → j < length T → length (f (getD T j (rec 0 0 0))) ≡ w) → (n : ℕ) → n ≡ sharingPairs (x .mesh) → length (flatMap f T) ≡ n * w
+      all-blocks f h n q =
           ap (λ (t : List Rec). length (flatMap f t)) (sym (take-all (length T) T (omega arith)))
-          ∙ blocks-front f w (rec 0 0 0) T h (length T) (omega arith) ∙ ap (λ (n : ℕ). n * w) long
+          ∙ blocks-front f w (rec 0 0 0) T h (length T) (omega arith) ∙ ap (λ (k : ℕ). k * w) (long ∙ sym q)

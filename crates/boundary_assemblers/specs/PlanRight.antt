@@ -29,7 +29,7 @@ use Rattle.boundary_assemblers.specs.Accepted.{Accepted, accepted}
 use Rattle.boundary_assemblers.specs.Runs.{begin, recordAt, cellDofs, isTouching, isDistant, rangesRight, placesRight, planRight, recordKnown, recordRight}
 use Rattle.boundary_assemblers.specs.Machine.{machineOf, machineRun, Call}
 use Rattle.boundary_assemblers.specs.Calls.{callAll}
-use Rattle.boundary_assemblers.specs.Whole.{Right, whole, embed, planOf, runOf, pairCount, recordNo, touches}
+use Rattle.boundary_assemblers.specs.Whole.{Right, whole, below, embed, planOf, runOf, pairCount, recordNo, touches}
 
 -- ---- what a pattern says
 
@@ -204,3 +204,9 @@ pub third-property : (x : Planning) (l : Lists) → planRefusal x l ≡ 0 → (c
 third-property x l e calls M =
     let ok : Accepted x l = accepted x l e in
     rw (plan-left x l e) (whole x (right x l ok (counted x l ok)) calls M)
+
+-- the position of the machine, which is the number of accepted adds, is at most C·C
+pub position-below : (x : Planning) (l : Lists) → planRefusal x l ≡ 0 → (calls : List Call) (M : List Float) → machineRun (machineOf x) calls M .position ≤ pairCount x
+position-below x l e calls M =
+    let ok : Accepted x l = accepted x l e in
+    below x (right x l ok (counted x l ok)) calls M

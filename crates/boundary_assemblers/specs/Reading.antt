@@ -5,23 +5,23 @@ use native.Mathlib.Nat.{add-zero}
 use native.Mathlib.Numerals.{add-one}
 use native.Mathlib.Omega.{arith}
 use mathlib.Core.Path.{_≡_, refl, sym, ap, ap₂, _∙_}
-use mathlib.Core.Bool.{Bool, true, false}
+use mathlib.Core.Bool.{Bool, true, false, not, cond}
 use mathlib.Core.List.{List, [], _∷_, _++_, flatMap}
 use lib.ListN.{length, getD, length-append, length-set}
 use lib.Seq.{getD-set-same, getD-set-other}
 use lib.Dec.{eqb}
 use lib.Ieee.{Float, nan}
-use borrow.Author.Tests.{eqb-true, eqb-false, eq-eqb, ne-eqb}
+use borrow.Author.Tests.{eqb-true, eqb-false}
 use Rattle.lists.specs.Range.{range, when, flatMap-range, flatMap-none}
-use Rattle.lists.specs.Fold.{upto, over, upto-keeps}
+use Rattle.lists.specs.Fold.{upto, over, upto-keeps, over-snoc}
 use Rattle.lists.specs.Refusals.{refusal, unless}
 use Rattle.integrands.specs.Floats.{_⊕_}
 use Rattle.cell_pair_assemblers.specs.Entries.{touchingEntry, distantEntry}
 use Rattle.cell_pairs.specs.WorkList.{rec}
 use Rattle.boundary_assemblers.specs.Planning.{unlessRefused}
 use Rattle.local_matrix.specs.Adding.{addAt, addLocal}
-use Rattle.boundary_assemblers.specs.Runs.{found, refused}
-use Rattle.boundary_assemblers.specs.Machine.{Machine, Call, looks, addsDistant, addsTouching, State, machineRefusal, machineSum, machineStep, machineRun}
+use Rattle.boundary_assemblers.specs.Runs.{Answer, found, refused}
+use Rattle.boundary_assemblers.specs.Machine.{Machine, Call, looks, addsDistant, addsTouching, State, machineRefusal, machineSum, answerTo, machineStep, machineRun}
 
 -- ---- one place of the matrix
 
@@ -226,11 +226,21 @@ module _ (m : Machine) where
       → getD (machineRun m calls M .matrix) e nan ≡ plusAll (entriesFrom 0 (acceptedAdds calls (fresh M)) e) (getD M e nan)
   reading calls M e h = rw (accepted-matrix calls M) (pairs-place 0 (acceptedAdds calls (fresh M)) M e h)
 
-  -- every look answers the next record in work order, or 20 after the last
-  pub look-record : (s : State) → s .position < m .pairs → machineStep m looks s .answers ≡ s .answers ++ (found (getD (m .work) (s .position) (rec 0 0 0)) ∷ [])
-  unfolding machineStep machineRefusal refusal unless
-  look-record s h = rw (ne-eqb (s .position) (m .pairs) (λ (e : s .position ≡ m .pairs). omega arith))
+  -- what a look is answered at position p: record p in work order, or 20 after the last
+  unfoldable pub lookAt : ℕ → Answer
+  lookAt p = cond (eqb p (m .pairs)) (refused 20) (found (getD (m .work) p (rec 0 0 0)))
 
-  pub look-end : (s : State) → s .position ≡ m .pairs → machineStep m looks s .answers ≡ s .answers ++ (refused 20 ∷ [])
-  unfolding machineStep machineRefusal refusal unless
-  look-end s e = rw (eq-eqb (s .position) (m .pairs) e)
+  look-step : (s : State) → machineStep m looks s .answers ≡ s .answers ++ (lookAt (s .position) ∷ [])
+  unfolding machineStep machineRefusal refusal unless lookAt
+  look-step s = go (eqb (s .position) (m .pairs))
+    where
+      go : (b : Bool) → s .answers ++ (answerTo m (unless (not b) 20 0) s looks ∷ []) ≡ s .answers ++ (cond b (refused 20) (found (getD (m .work) (s .position) (rec 0 0 0))) ∷ [])
+      go true = refl
+      go false = refl
+
+  -- every look, after whatever calls, is answered so
+  pub every-look : (calls : List Call) (M : List Float)
+      → machineRun m (calls ++ (looks ∷ [])) M .answers ≡ machineRun m calls M .answers ++ (lookAt (machineRun m calls M .position) ∷ [])
+  unfolding machineRun
+  every-look calls M =
+      ap (λ (s : State). s .answers) (over-snoc (machineStep m) calls looks (fresh M)) ∙ look-step (over (machineStep m) calls (fresh M))

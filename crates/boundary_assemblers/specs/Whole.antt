@@ -245,11 +245,17 @@ module _ (x : Planning) (right : Right x) where
   step-below (addsTouching a) s h = grown (machineRefusal (machineOf x) s (addsTouching a)) (s .position) h (touching-below s h a)
 
   -- The third property: on any list of calls, from a fresh dense run on the plan of planning, on any matrix, every answer, the position and every number of
-  -- the matrix are the machine's
-  pub whole : (calls : List Call) (M : List Float) → callAll (planOf x) calls (begin (planNumbers x)) M ≡ embed x (machineRun (machineOf x) calls M)
+  -- the matrix are the machine's; and the position is at most C·C
+  whole-below : (calls : List Call) (M : List Float)
+      → (callAll (planOf x) calls (begin (planNumbers x)) M ≡ embed x (machineRun (machineOf x) calls M)) × (machineRun (machineOf x) calls M .position ≤ pairCount x)
   unfolding callAll machineRun begin runOf
-  whole calls M =
+  whole-below calls M =
       over-agree (λ (q : Progress) (s : State). (q ≡ embed x s) × (s .position ≤ pairCount x)) (call (planOf x)) (machineStep (machineOf x))
       (λ c q s e. (ap (call (planOf x) c) (e .0) ∙ step-agrees c s (e .1), step-below c s (e .1)))
       calls _ (record { position = 0; matrix = M; answers = [] }) (refl, omega arith)
-      .0
+
+  pub whole : (calls : List Call) (M : List Float) → callAll (planOf x) calls (begin (planNumbers x)) M ≡ embed x (machineRun (machineOf x) calls M)
+  whole calls M = whole-below calls M .0
+
+  pub below : (calls : List Call) (M : List Float) → machineRun (machineOf x) calls M .position ≤ pairCount x
+  below calls M = whole-below calls M .1
