@@ -13,6 +13,7 @@ use Rattle.lists.specs.Bool.{_and_, and-left, and-right}
 use Rattle.lists.specs.Fold.{upto, upto-none, upto-more}
 use Rattle.lists.specs.Places.{in-row, in-rectangle}
 use Rattle.lists.specs.Refusals.{refusal, refusal-zero}
+use Rattle.table.specs.Rows.{tableRow}
 use Rattle.integrands.specs.declared.Integrand.{Integrand}
 use Rattle.integrands.specs.declared.Geometry.{Geometry}
 use Rattle.integrands.specs.declared.Side.{Side}
@@ -26,7 +27,7 @@ use Rattle.cell_pair_assemblers.specs.declared.LocalMatrix.{LocalMatrix}
 use Rattle.cell_pair_assemblers.specs.declared.Weight.{Weight}
 use Rattle.cell_pair_assemblers.specs.declared.Weight.the-variants.{Once, Twice}
 use Rattle.cell_pair_assemblers.specs.Lent.{Touching, Distant, touchingCount, touchingLengths, touchingChecks, distantCounts, distantLengths, distantChecks}
-use Rattle.cell_pair_assemblers.specs.Entries.{rowsAt, touchingValue, touchingSummand, touchingEntry, distantValue, distantSummand, distantEntry}
+use Rattle.cell_pair_assemblers.specs.Entries.{touchingValue, touchingSummand, touchingEntry, distantValue, distantSummand, distantEntry}
 
 -- value·w, or value·w·v
 unfoldable pub weighed : Weight → Float → Float
@@ -216,7 +217,7 @@ module _ (f : Integrand) where
   -- one point more, with its geometry, the width and the rows as the code has them
   pub touching-more : (a : Touching) (i j q K D : ℕ) (g h : Geometry) {x : Float} → g ≡ geometryAt (a .testGeometry) q → h ≡ geometryAt (a .trialGeometry) q
       → K ≡ kernelWidth f → D ≡ tableRows f
-      → x ≡ pointValue f (λ d. a .kernel ! (d + K * q)) (rowsAt (a .testTable) D (a .points) q i) (rowsAt (a .trialTable) D (a .points) q j) g h
+      → x ≡ pointValue f (λ d. a .kernel ! (d + K * q)) (tableRow (a .testTable) D (a .points) q i) (tableRow (a .trialTable) D (a .points) q j) g h
       → touchingSum a i j q ⊕ x ⊗ (a .weights ! q ⊗ (g .jdet ⊗ h .jdet)) ≡ touchingSum a i j (q + 1)
   unfolding touchingSum touchingSummand touchingValue
   touching-more a i j q K D g h {x} eg eh ek ed e =
@@ -236,7 +237,7 @@ module _ (f : Integrand) where
 
   pub distant-more : (a : Distant) (i j t r K D : ℕ) (g h : Geometry) {x v : Float} → g ≡ geometryAt (a .testGeometry) t → h ≡ geometryAt (a .trialGeometry) r
       → K ≡ kernelWidth f → D ≡ tableRows f → v ≡ a .testWeights ! t ⊗ g .jdet
-      → x ≡ pointValue f (λ d. a .kernel ! (d + K * (t + a .testPoints * r))) (rowsAt (a .testTable) D (a .testPoints) t i) (rowsAt (a .trialTable) D (a .trialPoints) r j) g h
+      → x ≡ pointValue f (λ d. a .kernel ! (d + K * (t + a .testPoints * r))) (tableRow (a .testTable) D (a .testPoints) t i) (tableRow (a .trialTable) D (a .trialPoints) r j) g h
       → distantSum a i j t r ⊕ x ⊗ (a .trialWeights ! r ⊗ h .jdet) ⊗ v ≡ distantSum a i j t (r + 1)
   unfolding distantSum distantSummand distantValue
   distant-more a i j t r K D g h {x} {v} eg eh ek ed ev e =
