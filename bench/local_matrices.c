@@ -1,5 +1,5 @@
 // Times local matrices of touching and of distant pairs, checks 9 to 11 included, against two C loops of the same sums: one entry at a time (plain), and
-// points outermost. The kinds are fixed at compile time in both, and neither checks anything. `bench/run` builds and runs it.
+// points outermost. The kinds are fixed at compile time in both, and neither checks anything. `bench/run-local-matrices` builds and runs it.
 //
 // Each line: pair, terms, dim, points a side, nanoseconds of ours, of plain, of outermost, then ours/plain and ours/outermost. Thread time, best of some
 // rounds. A result that differs from the plain loop's in a bit ends the run.
