@@ -1,0 +1,22 @@
+//! Compares assemblers on random meshes.
+//!
+//!     oracle compare [SEED [COUNT]]   thousands of random jobs, the published Rust beside ours and beside the paper as plain Rust
+mod compare;
+
+fn number(argument: Option<&String>, default: u64) -> u64 {
+    argument.map_or(default, |text| text.parse().expect("a number"))
+}
+
+fn main() -> std::process::ExitCode {
+    let arguments = std::env::args().skip(1).collect::<Vec<_>>();
+    let command = arguments.first().map_or("compare", |text| text.as_str());
+    let agree = match command {
+        "compare" => compare::run(number(arguments.get(1), 1), number(arguments.get(2), 3000)),
+        _ => panic!("no command {command}"),
+    };
+    if agree {
+        std::process::ExitCode::SUCCESS
+    } else {
+        std::process::ExitCode::FAILURE
+    }
+}

@@ -1,0 +1,357 @@
+//! Random meshes of every kind, and jobs and lent numbers on them.
+use crate::job::{dim, Element, Integrand, Job, Mesh, Term};
+use crate::numbers::{Numbers, Points, Size};
+use crate::random::Random;
+use std::collections::{HashMap, HashSet};
+
+type Cells = Vec<[u32; 3]>;
+
+/// The kinds of meshes.
+#[derive(Clone, Copy, Debug, PartialEq, Eq, PartialOrd, Ord)]
+pub enum Shape {
+    OneCell,
+    Sphere,
+    Torus,
+    Sheet,
+    Fan,
+    Book,
+    Soup,
+    Islands,
+    Pinched,
+}
+
+pub const SHAPES: [Shape; 9] = [
+    Shape::OneCell,
+    Shape::Sphere,
+    Shape::Torus,
+    Shape::Sheet,
+    Shape::Fan,
+    Shape::Book,
+    Shape::Soup,
+    Shape::Islands,
+    Shape::Pinched,
+];
+
+/// Every element of dim 1 to 10.
+pub fn elements() -> Vec<Element> {
+    let mut elements = vec![];
+    for a in 0..=3 {
+        for b in 0..=3 {
+            for c in 0..=10 {
+                if (1..=10).contains(&dim([a, b, c])) {
+                    elements.push([a, b, c]);
+                }
+            }
+        }
+    }
+    elements
+}
+
+const TETRAHEDRON: [[u32; 3]; 4] = [[0, 1, 2], [0, 3, 1], [0, 2, 3], [1, 3, 2]];
+const OCTAHEDRON: [[u32; 3]; 8] = [
+    [0, 1, 2],
+    [0, 2, 3],
+    [0, 3, 4],
+    [0, 4, 1],
+    [5, 2, 1],
+    [5, 3, 2],
+    [5, 4, 3],
+    [5, 1, 4],
+];
+
+/// Each cell cut into four at the middles of its edges.
+pub fn refine(cells: &[[u32; 3]]) -> Cells {
+    let mut next = 1 + cells.iter().flatten().max().unwrap();
+    let mut middles = HashMap::new();
+    let mut middle = |a: u32, b: u32| {
+        *middles.entry((a.min(b), a.max(b))).or_insert_with(|| {
+            next += 1;
+            next - 1
+        })
+    };
+    cells
+        .iter()
+        .flat_map(|[a, b, c]| {
+            let [ab, bc, ca] = [middle(*a, *b), middle(*b, *c), middle(*c, *a)];
+            [[*a, ab, ca], [*b, bc, ab], [*c, ca, bc], [ab, bc, ca]]
+        })
+        .collect()
+}
+
+/// A closed surface of 8·4^n cells.
+pub fn sphere(refinements: usize) -> Cells {
+    (0..refinements).fold(OCTAHEDRON.to_vec(), |cells, _| refine(&cells))
+}
+
+/// m by n squares, each cut in two; joined to a torus where round.
+fn squares(m: u32, n: u32, round: bool) -> Cells {
+    let width = if round { m } else { m + 1 };
+    let height = if round { n } else { n + 1 };
+    let at = |i: u32, j: u32| (i % width) + width * (j % height);
+    (0..n)
+        .flat_map(|j| (0..m).map(move |i| (i, j)))
+        .flat_map(|(i, j)| {
+            let [a, b, c, d] = [at(i, j), at(i + 1, j), at(i, j + 1), at(i + 1, j + 1)];
+            [[a, b, d], [a, d, c]]
+        })
+        .collect()
+}
+
+/// A torus of 2·m·n cells.
+pub fn torus(m: u32, n: u32) -> Cells {
+    squares(m, n, true)
+}
+
+fn fan(n: u32, closed: bool) -> Cells {
+    (0..n)
+        .map(|i| {
+            let last = if closed && i + 1 == n { 1 } else { i + 2 };
+            [0, i + 1, last]
+        })
+        .collect()
+}
+
+/// Any three vertices a cell; the same three no more than once, unless `repeat`.
+fn soup(random: &mut Random, n: usize, vertices: usize, repeat: bool) -> Cells {
+    let mut met = HashSet::new();
+    let mut cells = vec![];
+    for _ in 0..n {
+        let mut cell = [0; 3];
+        while cell[0] == cell[1] || cell[0] == cell[2] || cell[1] == cell[2] {
+            cell = [0; 3].map(|_| random.below(vertices) as u32);
+        }
+        let mut three = cell;
+        three.sort();
+        if met.insert(three) || repeat {
+            cells.push(cell);
+        }
+    }
+    cells
+}
+
+/// Meshes side by side, with no vertex in common.
+fn side_by_side(parts: &[Cells]) -> Cells {
+    let mut cells: Cells = vec![];
+    for part in parts {
+        let next = cells.iter().flatten().max().map_or(0, |v| v + 1);
+        cells.extend(part.iter().map(|cell| cell.map(|v| v + next)));
+    }
+    cells
+}
+
+fn small_part(random: &mut Random) -> Cells {
+    match random.below(4) {
+        0 => vec![[0, 1, 2]],
+        1 => fan(random.from_to(2, 5) as u32, false),
+        2 => TETRAHEDRON.to_vec(),
+        _ => squares(random.from_to(1, 2) as u32, 1, false),
+    }
+}
+
+fn islands(random: &mut Random) -> Cells {
+    let n = random.from_to(2, 6);
+    let parts = (0..n).map(|_| small_part(random)).collect::<Vec<_>>();
+    side_by_side(&parts)
+}
+
+/// Two closed surfaces that meet in one vertex.
+fn pinched() -> Cells {
+    let mut cells = side_by_side(&[OCTAHEDRON.to_vec(), TETRAHEDRON.to_vec()]);
+    for v in cells.iter_mut().flatten() {
+        if *v == 6 {
+            *v = 0;
+        }
+    }
+    cells
+}
+
+fn cells_of(random: &mut Random, shape: Shape, large: bool) -> Cells {
+    let most = if large { 12 } else { 5 };
+    match shape {
+        Shape::OneCell => vec![[0, 1, 2]],
+        Shape::Sphere if random.once_in(3) => TETRAHEDRON.to_vec(),
+        Shape::Sphere => sphere(random.below(if large { 3 } else { 2 })),
+        Shape::Torus => torus(random.from_to(3, most) as u32, random.from_to(3, 4) as u32),
+        Shape::Sheet => squares(
+            random.from_to(1, most) as u32,
+            random.from_to(1, 4) as u32,
+            false,
+        ),
+        Shape::Fan => fan(random.from_to(3, 4 * most) as u32, random.once_in(2)),
+        Shape::Book => (0..random.from_to(2, 2 * most) as u32)
+            .map(|i| [0, 1, i + 2])
+            .collect(),
+        Shape::Soup => {
+            let (n, v) = (random.from_to(2, 5 * most), random.from_to(4, 4 * most));
+            let repeat = random.once_in(4);
+            soup(random, n, v, repeat)
+        }
+        Shape::Islands => islands(random),
+        Shape::Pinched => pinched(),
+    }
+}
+
+/// A random map of 0, 1, 2, … to other numbers, with gaps at times.
+fn renumbering(random: &mut Random, used: usize, most: usize) -> (Vec<u32>, u32) {
+    let gaps = if random.once_in(2) {
+        random.below(6)
+    } else {
+        0
+    };
+    let n = (used + gaps).clamp(3, most);
+    let mut numbers = (0..n as u32).collect::<Vec<_>>();
+    if !random.once_in(4) {
+        random.shuffle(&mut numbers);
+    }
+    (numbers, n as u32)
+}
+
+/// Vertices and edges numbered at random, unused ones among them.
+fn numbered(random: &mut Random, cells: &[[u32; 3]]) -> Mesh {
+    let used = 1 + *cells.iter().flatten().max().unwrap() as usize;
+    let (vertex, vertices) = renumbering(random, used, 4096);
+    let cell_vertices = cells
+        .iter()
+        .flatten()
+        .map(|v| vertex[*v as usize])
+        .collect();
+    let mut met = HashMap::new();
+    let edge_order = cells
+        .iter()
+        .flat_map(|[a, b, c]| [(b, c), (a, c), (a, b)])
+        .map(|(a, b)| {
+            let next = met.len();
+            *met.entry((a.min(b), a.max(b))).or_insert(next)
+        })
+        .collect::<Vec<_>>();
+    let (edge, edges) = renumbering(random, met.len(), 6144);
+    Mesh {
+        cells: cells.len() as u32,
+        vertices,
+        edges,
+        cell_vertices,
+        cell_edges: edge_order.into_iter().map(|e| edge[e]).collect(),
+    }
+}
+
+/// A mesh with its edges numbered as they are met, vertices kept.
+pub fn plain_mesh(cells: &[[u32; 3]]) -> Mesh {
+    let mut met = HashMap::new();
+    let mut cell_edges = vec![];
+    for [a, b, c] in cells {
+        for (a, b) in [(b, c), (a, c), (a, b)] {
+            let next = met.len() as u32;
+            cell_edges.push(*met.entry((a.min(b), a.max(b))).or_insert(next));
+        }
+    }
+    Mesh {
+        cells: cells.len() as u32,
+        vertices: 1 + cells.iter().flatten().max().unwrap(),
+        edges: met.len() as u32,
+        cell_vertices: cells.as_flattened().to_vec(),
+        cell_edges,
+    }
+}
+
+/// What a random mesh was made of.
+#[derive(Clone, Copy, Debug)]
+pub struct Made {
+    pub shape: Shape,
+    /// Cells that stand twice with the same list.
+    pub repeated: usize,
+    /// Cells that stand twice, the second time with its vertices in another order.
+    pub turned: usize,
+}
+
+pub fn mesh(random: &mut Random, shape: Shape, large: bool) -> (Mesh, Made) {
+    let mut cells = cells_of(random, shape, large);
+    if !random.once_in(4) {
+        cells.iter_mut().for_each(|cell| random.shuffle(cell));
+    }
+    let repeated = if random.once_in(5) {
+        random.from_to(1, 3)
+    } else {
+        0
+    };
+    for _ in 0..repeated {
+        cells.push(cells[random.below(cells.len())]);
+    }
+    let turned = random.once_in(40) as usize;
+    for _ in 0..turned {
+        let mut cell = cells[random.below(cells.len())];
+        cell.rotate_left(1);
+        cells.push(cell);
+    }
+    if !random.once_in(4) {
+        random.shuffle(&mut cells);
+    }
+    let made = Made {
+        shape,
+        repeated,
+        turned,
+    };
+    (numbered(random, &cells), made)
+}
+
+fn term(random: &mut Random) -> Term {
+    Term {
+        kind: random.below(5) as u32,
+        factor: random.once_in(2).then(|| random.float(-2, 1)),
+    }
+}
+
+fn batch(random: &mut Random) -> u32 {
+    match random.below(6) {
+        0 => 1,
+        1 => 2,
+        2 => random.from_to(3, 9) as u32,
+        3 => 128,
+        4 => 65535,
+        _ => random.from_to(1, 65535) as u32,
+    }
+}
+
+pub fn job(random: &mut Random, shape: Shape, large: bool) -> (Job, Made) {
+    let (mesh, made) = mesh(random, shape, large);
+    let elements = elements();
+    let test = elements[random.below(elements.len())];
+    let trial = if random.once_in(3) {
+        test
+    } else {
+        elements[random.below(elements.len())]
+    };
+    let integrand = Integrand {
+        first: term(random),
+        second: random.once_in(3).then(|| term(random)),
+    };
+    let batch = batch(random);
+    let job = Job {
+        mesh,
+        test,
+        trial,
+        batch,
+        integrand,
+    };
+    (job, made)
+}
+
+/// Lent numbers with up to `most` points a rule. Test and trial counts differ one time in three.
+pub fn numbers(random: &mut Random, job: &Job, most: usize) -> (Numbers, Size) {
+    let test = random.from_to(1, most);
+    let trial = if random.once_in(3) {
+        random.from_to(1, most)
+    } else {
+        test
+    };
+    let points = Points {
+        touching: (0..28).map(|_| random.from_to(1, most + 1)).collect(),
+        test,
+        trial,
+    };
+    let size = match random.below(10) {
+        0 => Size::Small,
+        1 => Size::Large,
+        _ => Size::Ordinary,
+    };
+    (Numbers::new(job, points, size, random), size)
+}
