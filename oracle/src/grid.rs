@@ -5,6 +5,7 @@ use mpi::OneProcess;
 use ndelement::types::ReferenceCellType;
 use ndgrid::traits::{Entity, GeometryMap, Grid, ParallelGrid, Topology};
 use ndgrid::types::Ownership;
+use std::sync::Mutex;
 
 pub struct TriangleGrid<'a> {
     counts: [usize; 3],
@@ -14,6 +15,8 @@ pub struct TriangleGrid<'a> {
     numbers: Vec<usize>,
     cells_at_vertex: Vec<Vec<usize>>,
     lent: &'a Numbers,
+    /// The geometry that was asked for, as mark and cell, where it is noted.
+    asked: Option<Mutex<Vec<[usize; 2]>>>,
     comm: OneProcess,
 }
 
@@ -24,7 +27,8 @@ const TYPES: [ReferenceCellType; 3] = [
 ];
 
 impl<'a> TriangleGrid<'a> {
-    pub fn new(mesh: &Mesh, lent: &'a Numbers) -> Self {
+    /// With `note` set the grid notes which geometry it is asked for.
+    pub fn new(mesh: &Mesh, lent: &'a Numbers, note: bool) -> Self {
         let counts = [mesh.vertices, mesh.edges, mesh.cells].map(|n| n as usize);
         let wide = |list: &[u32]| list.iter().map(|n| *n as usize).collect::<Vec<_>>();
         let cell_vertices = wide(&mesh.cell_vertices);
@@ -41,8 +45,16 @@ impl<'a> TriangleGrid<'a> {
             numbers: (0..*counts.iter().max().unwrap()).collect(),
             cells_at_vertex,
             lent,
+            asked: note.then(Mutex::default),
             comm: OneProcess,
         }
+    }
+
+    pub fn take_asked(&self) -> Vec<[usize; 2]> {
+        self.asked
+            .as_ref()
+            .map(|asked| std::mem::take(&mut *asked.lock().unwrap()))
+            .unwrap_or_default()
     }
 }
 
@@ -142,6 +154,7 @@ impl Grid for TriangleGrid<'_> {
     fn geometry_map(&self, _: ReferenceCellType, points: &[f64]) -> LentGeometry<'_> {
         LentGeometry {
             lent: self.lent,
+            asked: self.asked.as_ref(),
             mark: points[0] as usize,
         }
     }
@@ -165,6 +178,7 @@ pub fn mark(rule: usize, trial: bool) -> f64 {
 /// Copies geometry that was made beforehand.
 pub struct LentGeometry<'a> {
     lent: &'a Numbers,
+    asked: Option<&'a Mutex<Vec<[usize; 2]>>>,
     mark: usize,
 }
 
@@ -185,6 +199,9 @@ impl GeometryMap for LentGeometry<'_> {
         jdets: &mut [f64],
         normals: &mut [f64],
     ) {
+        if let Some(asked) = self.asked {
+            asked.lock().unwrap().push([self.mark, cell]);
+        }
         let geometry = self.lent.geometry(self.mark / 2, self.mark % 2 == 1, cell);
         for (p, point) in geometry.chunks_exact(10).enumerate() {
             jdets[p] = point[0];

@@ -1,5 +1,6 @@
 //! The Rust as oracle: the published assemblers of bempp-rs, built over stand-in crates and fed with lent numbers, beside any other assembler.
 pub mod answer;
+pub mod clock;
 pub mod job;
 pub mod meshes;
 pub mod model;
@@ -10,6 +11,8 @@ pub mod random;
 pub mod grid;
 #[cfg(rust_at_hand)]
 pub mod published;
+#[cfg(rust_at_hand)]
+pub mod timing;
 
 #[cfg(rust_at_hand)]
 include!(concat!(env!("OUT_DIR"), "/published/root.rs"));

@@ -1,7 +1,10 @@
 //! Compares assemblers on random meshes.
 //!
 //!     oracle compare [SEED [COUNT]]   thousands of random jobs, the published Rust beside ours and beside the paper as plain Rust
+//!     oracle record                   a sample of the published Rust's answers, to standard output
 mod compare;
+#[cfg(rust_at_hand)]
+mod record;
 
 fn number(argument: Option<&String>, default: u64) -> u64 {
     argument.map_or(default, |text| text.parse().expect("a number"))
@@ -12,6 +15,11 @@ fn main() -> std::process::ExitCode {
     let command = arguments.first().map_or("compare", |text| text.as_str());
     let agree = match command {
         "compare" => compare::run(number(arguments.get(1), 1), number(arguments.get(2), 3000)),
+        #[cfg(rust_at_hand)]
+        "record" => {
+            record::run();
+            true
+        }
         _ => panic!("no command {command}"),
     };
     if agree {

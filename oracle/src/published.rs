@@ -150,7 +150,7 @@ fn points(rule: usize, trial: bool, n: usize) -> Vec<f64> {
     (0..n).flat_map(|i| [mark(rule, trial), i as f64]).collect()
 }
 
-fn lend_rules(numbers: &Numbers) {
+pub(crate) fn lend_rules(numbers: &Numbers) {
     let touching = |(rule, weights): (usize, &Vec<f64>)| TestTrialNumericalQuadratureDefinition {
         weights: weights.clone(),
         test_points: points(rule, false, weights.len()),
@@ -193,7 +193,7 @@ impl<'a> LentKernel<'a> {
         }
     }
 
-    fn take_asked(&self) -> Vec<[u32; 3]> {
+    pub fn take_asked(&self) -> Vec<[u32; 3]> {
         self.asked
             .as_ref()
             .map(|asked| asked.take())
@@ -236,14 +236,14 @@ pub fn spaces<'a>(
     )
 }
 
-fn options(job: &Job, numbers: &Numbers) -> BoundaryAssemblerOptions {
+pub(crate) fn options(job: &Job, numbers: &Numbers) -> BoundaryAssemblerOptions {
     let mut options = BoundaryAssemblerOptions::default();
     options.set_regular_quadrature_degree(Triangle, numbers.test_points);
     options.set_batch_size(job.batch as usize);
     options
 }
 
-fn assembler<'o, 'a, I: BoundaryIntegrand<T = f64>>(
+pub(crate) fn assembler<'o, 'a, I: BoundaryIntegrand<T = f64>>(
     integrand: I,
     numbers: &'a Numbers,
     note: bool,
@@ -300,7 +300,7 @@ fn answer_with<I: BoundaryIntegrand<T = f64>>(
     integrand: I,
 ) -> Answer {
     lend_rules(numbers);
-    let grid = TriangleGrid::new(&job.mesh, numbers);
+    let grid = TriangleGrid::new(&job.mesh, numbers, false);
     let (test_space, trial_space) = spaces(job, numbers, &grid);
     let options = options(job, numbers);
     let assembler = assembler(integrand, numbers, true, &options);

@@ -78,9 +78,11 @@ impl<T: RlstScalar, const N: usize> DynamicArray<T, N> {
 
     #[inline]
     fn place(&self, index: [usize; N]) -> usize {
-        std::iter::zip(index, self.implementation.stride)
-            .map(|(i, s)| i * s)
-            .sum()
+        let mut place = 0;
+        for i in 0..N {
+            place += index[i] * self.implementation.stride[i];
+        }
+        place
     }
 }
 
