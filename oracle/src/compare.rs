@@ -39,7 +39,7 @@ fn rust_answer(_: &Job, _: &Numbers) -> Option<Result<Answer, String>> {
 #[derive(Default)]
 struct Tally {
     outcomes: BTreeMap<String, u64>,
-    shapes: BTreeMap<String, u64>,
+    kinds: BTreeMap<String, u64>,
     pairs: u64,
     entries: u64,
     differ: u64,
@@ -47,7 +47,7 @@ struct Tally {
 
 impl Tally {
     fn print(&self, jobs: u64, seed: u64) {
-        for (name, n) in self.shapes.iter().chain(&self.outcomes) {
+        for (name, n) in self.kinds.iter().chain(&self.outcomes) {
             println!("{n:8} {name}");
         }
         println!(
@@ -57,46 +57,88 @@ impl Tally {
     }
 }
 
-fn run_job(seed: u64, others: &[(&str, &dyn Assembler)], tally: &mut Tally) {
-    let mut random = Random::new(seed);
-    let shape = SHAPES[random.below(SHAPES.len())];
-    let large = random.once_in(12);
-    let (job, made) = meshes::job(&mut random, shape, large);
-    let (numbers, _) = meshes::numbers(&mut random, &job, 3);
-    let rust = rust_answer(&job, &numbers).expect("the Rust is at hand");
+type Others<'a> = &'a [(&'a str, &'a dyn Assembler)];
+
+fn run_job(name: &str, job: &Job, numbers: &Numbers, others: Others, tally: &mut Tally) {
+    let rust = rust_answer(job, numbers).expect("the Rust is at hand");
     if let Ok(answer) = &rust {
         tally.pairs += answer.work.len() as u64;
         tally.entries += answer.matrix.len() as u64;
     }
-    *tally.shapes.entry(format!("{:?}", made.shape)).or_default() += 1;
-    for (name, other) in others {
-        let outcome = match agreement(&rust, &other.answer(&job, &numbers)) {
+    for (other_name, other) in others {
+        let outcome = match agreement(&rust, &other.answer(job, numbers)) {
             Ok(text) => text.to_string(),
             Err(text) => {
-                println!("job {seed}: {name} differs: {text}");
+                println!("job {name}: {other_name} differs: {text}");
                 tally.differ += 1;
                 "differs".to_string()
             }
         };
         *tally
             .outcomes
-            .entry(format!("{name}: {outcome}"))
+            .entry(format!("{other_name}: {outcome}"))
             .or_default() += 1;
     }
 }
 
-/// Whether all agree. Job i has the seed `seed` + i.
-pub fn run(seed: u64, jobs: u64) -> bool {
+fn run_random(seed: u64, others: Others, tally: &mut Tally) {
+    let mut random = Random::new(seed);
+    let shape = SHAPES[random.below(SHAPES.len())];
+    let large = random.once_in(12);
+    let (job, made) = meshes::job(&mut random, shape, large);
+    let (numbers, size) = meshes::numbers(&mut random, &job, 3);
+    let unused = made.unused_vertices + made.unused_edges > 0;
+    for (name, holds) in [
+        (format!("shape: {:?}", made.shape), true),
+        (format!("numbers: {size:?}"), true),
+        (
+            "cells repeated with the same list".to_string(),
+            made.repeated > 0,
+        ),
+        ("cells repeated and turned".to_string(), made.turned > 0),
+        ("unused vertices or edges".to_string(), unused),
+        (
+            "test and trial point counts differ".to_string(),
+            numbers.test_points != numbers.trial_points,
+        ),
+    ] {
+        *tally.kinds.entry(name).or_default() += holds as u64;
+    }
+    run_job(&seed.to_string(), &job, &numbers, others, tally);
+}
+
+/// Whether all agree on `jobs` jobs, made by `f` from the seeds from `seed` on.
+fn run_all(seed: u64, jobs: u64, f: impl Fn(u64, Others, &mut Tally)) -> bool {
     if cfg!(not(rust_at_hand)) {
         println!("the published Rust is not at hand (BEMPP_RS): no comparison was made");
         return true;
     }
     std::panic::set_hook(Box::new(|_| {}));
-    let others: [(&str, &dyn Assembler); 1] = [("the paper as plain Rust", &oracle::model::Model)];
+    let others: Others = &[
+        #[cfg(feature = "ours")]
+        ("ours", &oracle::ours::Ours),
+        ("the paper as plain Rust", &oracle::model::Model),
+    ];
     let mut tally = Tally::default();
     for i in 0..jobs {
-        run_job(seed.wrapping_add(i), &others, &mut tally);
+        f(seed.wrapping_add(i), others, &mut tally);
     }
     tally.print(jobs, seed);
     tally.differ == 0
+}
+
+/// Random jobs.
+pub fn run(seed: u64, jobs: u64) -> bool {
+    run_all(seed, jobs, run_random)
+}
+
+/// The largest meshes.
+pub fn run_large(seed: u64, jobs: u64) -> bool {
+    run_all(seed, jobs, |seed, others, tally| {
+        let mut random = Random::new(seed);
+        let (name, job) = meshes::large_job(&mut random, seed as usize);
+        let (numbers, _) = meshes::numbers(&mut random, &job, 2);
+        *tally.kinds.entry(name.to_string()).or_default() += 1;
+        run_job(&seed.to_string(), &job, &numbers, others, tally);
+    })
 }

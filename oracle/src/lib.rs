@@ -5,6 +5,8 @@ pub mod job;
 pub mod meshes;
 pub mod model;
 pub mod numbers;
+#[cfg(feature = "ours")]
+pub mod ours;
 pub mod random;
 
 #[cfg(rust_at_hand)]

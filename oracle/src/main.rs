@@ -1,8 +1,13 @@
 //! Compares assemblers on random meshes.
 //!
 //!     oracle compare [SEED [COUNT]]   thousands of random jobs, the published Rust beside ours and beside the paper as plain Rust
+//!     oracle large [SEED [COUNT]]     meshes of up to 2,048 cells
+//!     oracle differences              the smallest inputs on which the Rust and the paper part
+//!     oracle batch-0                  one more: the Rust does not come back from batch size 0, and takes all memory that it can get
 //!     oracle record                   a sample of the published Rust's answers, to standard output
 mod compare;
+#[cfg(rust_at_hand)]
+mod differences;
 #[cfg(rust_at_hand)]
 mod record;
 
@@ -15,6 +20,17 @@ fn main() -> std::process::ExitCode {
     let command = arguments.first().map_or("compare", |text| text.as_str());
     let agree = match command {
         "compare" => compare::run(number(arguments.get(1), 1), number(arguments.get(2), 3000)),
+        "large" => compare::run_large(number(arguments.get(1), 1), number(arguments.get(2), 9)),
+        #[cfg(rust_at_hand)]
+        "differences" => {
+            differences::run();
+            true
+        }
+        #[cfg(rust_at_hand)]
+        "batch-0" => {
+            differences::batch_0();
+            true
+        }
         #[cfg(rust_at_hand)]
         "record" => {
             record::run();

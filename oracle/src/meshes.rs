@@ -261,6 +261,12 @@ pub struct Made {
     pub repeated: usize,
     /// Cells that stand twice, the second time with its vertices in another order.
     pub turned: usize,
+    pub unused_vertices: u32,
+    pub unused_edges: u32,
+}
+
+fn unused(count: u32, used: &[u32]) -> u32 {
+    count - used.iter().collect::<HashSet<_>>().len() as u32
 }
 
 pub fn mesh(random: &mut Random, shape: Shape, large: bool) -> (Mesh, Made) {
@@ -285,12 +291,15 @@ pub fn mesh(random: &mut Random, shape: Shape, large: bool) -> (Mesh, Made) {
     if !random.once_in(4) {
         random.shuffle(&mut cells);
     }
+    let mesh = numbered(random, &cells);
     let made = Made {
         shape,
         repeated,
         turned,
+        unused_vertices: unused(mesh.vertices, &mesh.cell_vertices),
+        unused_edges: unused(mesh.edges, &mesh.cell_edges),
     };
-    (numbered(random, &cells), made)
+    (mesh, made)
 }
 
 fn term(random: &mut Random) -> Term {
@@ -333,6 +342,43 @@ pub fn job(random: &mut Random, shape: Shape, large: bool) -> (Job, Made) {
         integrand,
     };
     (job, made)
+}
+
+/// Meshes near the largest sizes, by turns, with elements whose matrix is not too large.
+pub fn large_job(random: &mut Random, turn: usize) -> (&'static str, Job) {
+    let (name, mut cells) = match turn % 9 {
+        0 => ("sphere of 2,048 cells", sphere(4)),
+        1 => ("torus of 2,048 cells", torus(32, 32)),
+        2 => ("sheet of 2,000 cells", squares(50, 20, false)),
+        3 => ("closed fan of 2,048 cells", fan(2048, true)),
+        4 => ("open fan of 2,048 cells", fan(2048, false)),
+        5 => (
+            "2,048 cells on one edge",
+            (0..2048).map(|i| [0, 1, i + 2]).collect(),
+        ),
+        6 => ("soup of 2,048 cells", soup(random, 2048, 900, false)),
+        7 => (
+            "1,365 disjoint cells",
+            side_by_side(&vec![vec![[0, 1, 2]]; 1365]),
+        ),
+        _ => ("64 spheres of 32 cells", side_by_side(&vec![sphere(1); 64])),
+    };
+    if !random.once_in(3) {
+        cells.iter_mut().for_each(|cell| random.shuffle(cell));
+    }
+    random.shuffle(&mut cells);
+    let elements = [[1, 0, 0], [0, 0, 1], [0, 1, 0], [1, 0, 1]];
+    let job = Job {
+        mesh: numbered(random, &cells),
+        test: elements[random.below(4)],
+        trial: elements[random.below(4)],
+        batch: batch(random),
+        integrand: Integrand {
+            first: term(random),
+            second: random.once_in(3).then(|| term(random)),
+        },
+    };
+    (name, job)
 }
 
 /// Lent numbers with up to `most` points a rule. Test and trial counts differ one time in three.

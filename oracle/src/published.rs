@@ -413,14 +413,62 @@ fn answer_or_panic(job: &Job, numbers: &Numbers) -> Answer {
     }
 }
 
+/// What f gives, or what it says when it panics.
+fn caught<R>(f: impl FnOnce() -> R) -> Result<R, String> {
+    catch_unwind(AssertUnwindSafe(f)).map_err(|panic| match panic.downcast::<String>() {
+        Ok(text) => *text,
+        Err(panic) => panic
+            .downcast::<&str>()
+            .map_or_else(|_| "a panic".to_string(), |text| text.to_string()),
+    })
+}
+
 /// What the Rust answers, or what it says when it panics.
 pub fn answer(job: &Job, numbers: &Numbers) -> Result<Answer, String> {
-    catch_unwind(AssertUnwindSafe(|| answer_or_panic(job, numbers))).map_err(|panic| {
-        match panic.downcast::<String>() {
-            Ok(text) => *text,
-            Err(panic) => panic
-                .downcast::<&str>()
-                .map_or_else(|_| "a panic".to_string(), |text| text.to_string()),
-        }
-    })
+    caught(|| answer_or_panic(job, numbers))
+}
+
+// ---- what a single call gives, for docs/DIFFERENCES.md
+
+/// `assemble_into_memory` on a matrix that is one number short.
+pub fn wrong_length(job: &Job, numbers: &Numbers) -> String {
+    lend_rules(numbers);
+    let grid = TriangleGrid::new(&job.mesh, numbers, false);
+    let (test, trial) = spaces(job, numbers, &grid);
+    let options = options(job, numbers);
+    let assembler = assembler(one_term(job.integrand.first), numbers, false, &options);
+    let mut matrix = vec![0.0; test.global_size() * trial.global_size() - 1];
+    match caught(|| assembler.assemble_into_memory(&trial, &test, &mut matrix)) {
+        Ok(()) => "goes on".to_string(),
+        Err(text) => format!("panics: {}", text.replace('\n', " ")),
+    }
+}
+
+/// The pairs where the test and the trial space have a grid each, with the same cells.
+pub fn two_grids(job: &Job, numbers: &Numbers) -> Vec<[u32; 3]> {
+    lend_rules(numbers);
+    let grids = [0; 2].map(|_| TriangleGrid::new(&job.mesh, numbers, false));
+    let (test, _) = spaces(job, numbers, &grids[0]);
+    let (_, trial) = spaces(job, numbers, &grids[1]);
+    let options = options(job, numbers);
+    let assembler = assembler(one_term(job.integrand.first), numbers, true, &options);
+    let mut matrix = vec![0.0; test.global_size() * trial.global_size()];
+    assembler.assemble_into_memory(&trial, &test, &mut matrix);
+    assembler.kernel.kernel.take_asked()
+}
+
+/// How many entries `assemble_singular` keeps, and `assemble_singular_part` has, where a factor makes all of them small.
+pub fn tiny_singular(job: &Job, numbers: &Numbers) -> (usize, usize) {
+    lend_rules(numbers);
+    let grid = TriangleGrid::new(&job.mesh, numbers, false);
+    let (test, trial) = spaces(job, numbers, &grid);
+    let options = options(job, numbers);
+    let term = Term {
+        kind: job.integrand.first.kind,
+        factor: Some(1e-30),
+    };
+    let assembler = assembler(one_term(term), numbers, false, &options);
+    let kept = assembler.assemble_singular(&trial, &test).data.len();
+    let all = door::singular_part(&assembler, &trial, &test).data.len();
+    (kept, all)
 }
