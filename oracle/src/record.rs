@@ -13,6 +13,10 @@
 //!                the second; test points, trial points and points of a touching pair; what the Rust answers (0 an answer, 7 a panic for want of a
 //!                pattern); 0
 //!     factors    two floats, 0 for a term that is bare or not there
+//!     lengths    24 numbers, the lengths of lists, so that no reader multiplies: vertices, test DOFs, trial DOFs, colours, test owners, trial owners (as planning
+//!                wants them), work, lent (8·C·C); test owners, trial owners (as planning writes them), matrix, entries (these four 0 where there is no
+//!                answer); of a distant add test weights, trial weights, test table, trial table, kernel, test geometry, trial geometry; of a touching add
+//!                weights, test table, trial table, kernel, geometry
 //!     vertices   3·C numbers
 //!     edges      3·C numbers
 //! and, where there is an answer,
@@ -20,9 +24,9 @@
 //!     test DOFs (C·dim numbers), trial DOFs, test colours (C), trial colours, test owners (3·rows: dimension, entity, place), trial owners (3·columns)
 //!     work       3·C·C numbers
 //!     lent       for each record two words of four numbers, where the lists lent to its add begin: test weights, trial weights, test table, trial table in the
-//!                pool (trial weights 0 for a touching pair, whose weights are the test weights); kernel in the pool, test geometry, trial geometry in points; 0
+//!                pool (trial weights 0 for a touching pair, whose weights are the test weights); kernel in the pool, test geometry, trial geometry; 0
 //!     entry rows, entry columns (S·test dim·trial dim numbers each), entry values (floats)
-//!     matrix     rows·columns floats, from a start that has float i of the pool, round and round, at place i
+//!     matrix     rows·columns floats, from a start that has float i of the pool at place i
 use oracle::answer::Answer;
 use oracle::job::{dim, Job, Term};
 use oracle::meshes::{self, SHAPES};
@@ -79,7 +83,38 @@ fn factor(term: Option<Term>) -> f64 {
     term.and_then(|t| t.factor).unwrap_or(0.0)
 }
 
-fn question(job: &Job, numbers: &Numbers, refusal: u32) -> String {
+fn lengths(job: &Job, numbers: &Numbers, answer: Option<&Answer>) -> Vec<u32> {
+    let c = job.mesh.cells as usize;
+    let (m, n) = (dim(job.test), dim(job.trial));
+    let (k, d) = (numbers.width, numbers.rows);
+    let (t, r) = (numbers.test_points, numbers.trial_points);
+    let p = numbers.touching_points[0];
+    let written = answer.map_or([0; 4], |a| {
+        let owners = [a.test.owners.len(), a.trial.owners.len()];
+        [owners[0], owners[1], a.matrix.len(), a.entries.values.len()]
+    });
+    let planning = [
+        3 * c,
+        c * m,
+        c * n,
+        c,
+        3 * c * m,
+        3 * c * n,
+        3 * c * c,
+        8 * c * c,
+    ];
+    let distant = [t, r, d * t * m, d * r * n, k * t * r, 10 * t, 10 * r];
+    let touching = [p, d * p * m, d * p * n, k * p, 10 * p];
+    let lists = planning
+        .iter()
+        .chain(&written)
+        .chain(&distant)
+        .chain(&touching);
+    lists.map(|n| *n as u32).collect()
+}
+
+fn question(job: &Job, numbers: &Numbers, answer: Option<&Answer>) -> String {
+    let refusal = if answer.is_some() { 0 } else { 7 };
     let mesh = &job.mesh;
     let (first, second) = (Some(job.integrand.first), job.integrand.second);
     let ([a, b, c], [d, e, f]) = (job.test, job.trial);
@@ -95,6 +130,7 @@ fn question(job: &Job, numbers: &Numbers, refusal: u32) -> String {
         packed(&[mesh.cells, mesh.vertices, mesh.edges, job.batch]),
         digits([a, b, c, d, e, f, terms, g, h, i, j, t, r, p, refusal, 0]),
         floats(&[factor(first), factor(second)]),
+        packed(&lengths(job, numbers, answer)),
         packed(&mesh.cell_vertices),
         packed(&mesh.cell_edges),
     ]
@@ -120,8 +156,8 @@ fn lent(job: &Job, numbers: &Numbers, record: [u32; 3]) -> [u32; 8] {
         numbers.list_place(List::TestTable, rule, numbers.rows * tp * dim(job.test)),
         numbers.list_place(List::TrialTable, rule, numbers.rows * rp * dim(job.trial)),
         numbers.kernel_place(rule, t, r),
-        numbers.geometry_place(rule, false, t),
-        numbers.geometry_place(rule, true, r),
+        10 * numbers.geometry_place(rule, false, t),
+        10 * numbers.geometry_place(rule, true, r),
         0,
     ]
     .map(|n| n as u32)
@@ -184,9 +220,9 @@ fn case(random: &mut Random, i: usize, geometry: &[f64], pool: &[f64]) -> String
             continue;
         }
         match oracle::published::answer(&job, &numbers) {
-            Err(_) => return question(&job, &numbers, 7),
+            Err(_) => return question(&job, &numbers, None),
             Ok(answer) if small_answer(&answer) => {
-                return question(&job, &numbers, 0) + &reply(&job, &numbers, &answer)
+                return question(&job, &numbers, Some(&answer)) + &reply(&job, &numbers, &answer)
             }
             Ok(_) => continue,
         }

@@ -3,87 +3,18 @@
 use integrands::Integrand;
 use integrands::Term;
 use libc::STDOUT_FILENO;
+use recorded::at_end;
+use recorded::digit_at;
+use recorded::finite_of;
+use recorded::read_text;
+use recorded::read_word;
+use recorded::same_bits;
+use recorded::two_at;
 ghost use mathlib.Core.Path.{_≡_};
 ghost use Prim.Native.Nat.{_≤_};
 ghost use lib.ListN.{length};
 
-// ---- the file: words of 16 hexadecimal digits, a blank or a line end after each
-
-// The next word, as text; zeros where the file has ended.
-fn read_text(fd: i32) -> [u8; 17] {
-    let mut text = [0u8; 17];
-    io::read_full(fd, &mut text);
-    text
-}
-
-fn digit(b: u8) -> u64
-    ensures { λ r. ⌜ r ≤ 15 ⌝ }
-{
-    if b < 48 {
-        return 0;
-    }
-    if b <= 57 {
-        return b as u64 - 48;
-    }
-    if b < 97 {
-        return 0;
-    }
-    if b <= 102 {
-        return b as u64 - 87;
-    }
-    0
-}
-
-// Digit i of a word.
-fn digit_at(text: &[u8; 17], i: usize) -> u64
-    requires { ⌜ i ≤ 15 ⌝ }
-    ensures { λ r. ⌜ r ≤ 15 ⌝ }
-{
-    digit(text[i])
-}
-
-// A number of four digits, from digit i on.
-fn four_at(text: &[u8; 17], i: usize) -> u64
-    requires { ⌜ i ≤ 12 ⌝ }
-    ensures { λ r. ⌜ r ≤ 65535 ⌝ }
-{
-    4096 * digit_at(text, i)
-        + 256 * digit_at(text, i + 1)
-        + 16 * digit_at(text, i + 2)
-        + digit_at(text, i + 3)
-}
-
-fn read_word(fd: i32) -> u64 {
-    let text = read_text(fd);
-    281474976710656 * four_at(&text, 0)
-        + 4294967296 * four_at(&text, 4)
-        + 65536 * four_at(&text, 8)
-        + four_at(&text, 12)
-}
-
-// The float of these bits, or infinity for any that is not finite: check 11 turns it down.
-fn finite_of(word: u64) -> f64 {
-    if word % 9223372036854775808 / 4503599627370496 == 2047 {
-        return 1.0 / 0.0;
-    }
-    f64::from_bits(word)
-}
-
-// Whether x has these bits. A NaN is recorded as 7ff8000000000000.
-fn same_bits(x: f64, word: u64) -> bool {
-    if x != x {
-        return word == 9221120237041090560;
-    }
-    f64::to_bits(x) == word
-}
-
-// A number of two digits of a word, from digit i on: at most 255.
-fn two_at(text: &[u8; 17], i: usize) -> usize
-    requires { ⌜ i ≤ 14 ⌝ }
-    ensures { λ r. ⌜ r ≤ 255 ⌝ }
-{
-    (16 * digit_at(text, i) + digit_at(text, i + 1)) as usize
-}
+// ---- lists
 
 // The next floats, as many as the two digits say that stand in the word of lengths from digit i on. Answers how many.
 fn read_list(fd: i32, list: &mut [f64; 256], lengths: &[u8; 17], i: usize) -> usize
@@ -393,12 +324,6 @@ fn run_all(fd: i32) -> Tally {
     let t = run_group(fd, b"sums that overflow", 14, t);
     let t = run_group(fd, b"NaNs among large values", 10, t);
     run_group(fd, b"infinity minus infinity", 12, t)
-}
-
-// Whether the file has no byte left.
-fn at_end(fd: i32) -> bool {
-    let mut byte = [0u8; 1];
-    libc::read(fd, &mut byte) == 0
 }
 
 fn main() {

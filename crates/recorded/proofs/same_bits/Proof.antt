@@ -1,12 +1,12 @@
--- `local_runs::same_bits` is safe: a number that equals itself is no NaN. Assumes nothing.
+-- `recorded::same_bits` is safe: a number that equals itself is no NaN. Assumes nothing.
 use mathlib.Core.Bool.{false, not}
 use mathlib.Core.Path.{_≡_, subst}
 use lib.Dec.{T}
 use lib.Ieee as Ieee
 use lib.Ieee.{Float, nan, inf, fin, isNan}
 use borrow.Author.Needs.{needs}
-use Rattle.local_runs.proofs.same_bits.Statement.{statement}
-use Rattle.local_runs.proofs.same_bits.Tie as tie
+use Rattle.recorded.proofs.same_bits.Statement.{statement}
+use Rattle.recorded.proofs.same_bits.Tie as tie
 
 no-nan : (x : Float) → Ieee.ne x x ≡ false → T (not (isNan x))
 unfolding isNan Ieee.ne

@@ -1,4 +1,4 @@
--- `local_runs::finite_of` is safe: an exponent's field that is not all ones is no NaN's. Assumes nothing.
+-- `recorded::finite_of` is safe: an exponent's field that is not all ones is no NaN's. Assumes nothing.
 use Prim.Native.Nat.{ℕ}
 use mathlib.Core.Bool.{Bool, true, false, not, _&&_}
 use mathlib.Core.Path.{_≡_, refl}
@@ -6,8 +6,8 @@ use lib.Dec.{T, eqb}
 use lib.Ieee.{nanBits}
 use borrow.Author.Tests.{eqb-true}
 use borrow.Author.Needs.{needs}
-use Rattle.local_runs.proofs.finite_of.Statement.{statement}
-use Rattle.local_runs.proofs.finite_of.Tie as tie
+use Rattle.recorded.proofs.finite_of.Statement.{statement}
+use Rattle.recorded.proofs.finite_of.Tie as tie
 
 no-ones : (x y : ℕ) (b : Bool) → (x ≡ y → ⊥) → T (not (eqb x y && b))
 no-ones x y b h = by-test (eqb x y) refl
