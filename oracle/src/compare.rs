@@ -1,10 +1,10 @@
 //! Random jobs, each answered by the published Rust and by the others.
 use oracle::answer::{difference, Answer, Assembler, Refused};
-use oracle::job::Job;
+use oracle::job::{Element, Job};
 use oracle::meshes::{self, SHAPES};
 use oracle::numbers::Numbers;
 use oracle::random::Random;
-use std::collections::BTreeMap;
+use std::collections::{BTreeMap, BTreeSet};
 
 /// What the Rust's `HashMap` of patterns says when it is asked for one that it has not.
 const NO_PATTERN: &str = "no entry found for key";
@@ -40,8 +40,13 @@ fn rust_answer(_: &Job, _: &Numbers) -> Option<Result<Answer, String>> {
 struct Tally {
     outcomes: BTreeMap<String, u64>,
     kinds: BTreeMap<String, u64>,
+    elements: BTreeSet<Element>,
+    batches: BTreeSet<u32>,
+    points: BTreeSet<usize>,
     pairs: u64,
-    entries: u64,
+    numbers: u64,
+    infinite: u64,
+    nan: u64,
     differ: u64,
 }
 
@@ -51,9 +56,30 @@ impl Tally {
             println!("{n:8} {name}");
         }
         println!(
-            "{jobs} jobs from seed {seed}: {} pairs, {} matrix entries, {} jobs differ",
-            self.pairs, self.entries, self.differ
+            "{} elements of {}, batches from {} to {}, up to {} points, matrices with {} infinite numbers and {} NaN",
+            self.elements.len(),
+            meshes::elements().len(),
+            self.batches.first().unwrap_or(&0),
+            self.batches.last().unwrap_or(&0),
+            self.points.last().unwrap_or(&0),
+            self.infinite,
+            self.nan
         );
+        println!(
+            "{jobs} jobs from seed {seed}: {} pairs, {} matrix numbers, {} answers differ",
+            self.pairs, self.numbers, self.differ
+        );
+    }
+
+    /// Notes what was compared.
+    fn note(&mut self, job: &Job, numbers: &Numbers, answer: &Answer) {
+        self.elements.extend([job.test, job.trial]);
+        self.batches.insert(job.batch);
+        self.points.insert(numbers.most_points());
+        self.pairs += answer.work.len() as u64;
+        self.numbers += answer.matrix.len() as u64;
+        self.infinite += answer.matrix.iter().filter(|x| x.is_infinite()).count() as u64;
+        self.nan += answer.matrix.iter().filter(|x| x.is_nan()).count() as u64;
     }
 }
 
@@ -62,8 +88,7 @@ type Others<'a> = &'a [(&'a str, &'a dyn Assembler)];
 fn run_job(name: &str, job: &Job, numbers: &Numbers, others: Others, tally: &mut Tally) {
     let rust = rust_answer(job, numbers).expect("the Rust is at hand");
     if let Ok(answer) = &rust {
-        tally.pairs += answer.work.len() as u64;
-        tally.entries += answer.matrix.len() as u64;
+        tally.note(job, numbers, answer);
     }
     for (other_name, other) in others {
         let outcome = match agreement(&rust, &other.answer(job, numbers)) {
@@ -86,7 +111,7 @@ fn run_random(seed: u64, others: Others, tally: &mut Tally) {
     let shape = SHAPES[random.below(SHAPES.len())];
     let large = random.once_in(12);
     let (job, made) = meshes::job(&mut random, shape, large);
-    let (numbers, size) = meshes::numbers(&mut random, &job, 3);
+    let (numbers, size) = meshes::numbers(&mut random, &job);
     let unused = made.unused_vertices + made.unused_edges > 0;
     for (name, holds) in [
         (format!("shape: {:?}", made.shape), true),
@@ -137,8 +162,38 @@ pub fn run_large(seed: u64, jobs: u64) -> bool {
     run_all(seed, jobs, |seed, others, tally| {
         let mut random = Random::new(seed);
         let (name, job) = meshes::large_job(&mut random, seed as usize);
-        let (numbers, _) = meshes::numbers(&mut random, &job, 2);
+        let (numbers, _) = meshes::numbers(&mut random, &job);
         *tally.kinds.entry(name.to_string()).or_default() += 1;
         run_job(&seed.to_string(), &job, &numbers, others, tally);
     })
+}
+
+/// Jobs with faults, which the Rust has no refusals for: ours beside the paper as plain Rust.
+#[cfg(feature = "ours")]
+pub fn run_refusals(seed: u64, jobs: u64) -> bool {
+    let mut numbers_answered = BTreeMap::new();
+    let mut differ = 0;
+    for seed in seed..seed + jobs {
+        let mut random = Random::new(seed);
+        let shape = SHAPES[random.below(SHAPES.len())];
+        let (mut job, _) = meshes::job(&mut random, shape, false);
+        for _ in 0..random.from_to(1, 2) {
+            meshes::spoil(&mut random, &mut job);
+        }
+        let (numbers, _) = meshes::numbers(&mut random, &job);
+        let number =
+            |answer: Result<Answer, Refused>| answer.map_or_else(|refused| refused.0, |_| 0);
+        let paper = number(oracle::model::Model.answer(&job, &numbers));
+        let ours = number(oracle::ours::Ours.answer(&job, &numbers));
+        *numbers_answered.entry(paper).or_insert(0) += 1;
+        if paper != ours {
+            println!("job {seed}: the paper as plain Rust {paper}, ours {ours}");
+            differ += 1;
+        }
+    }
+    for (number, n) in numbers_answered {
+        println!("{n:8} refusal {number}");
+    }
+    println!("{jobs} jobs with faults, {differ} answers differ");
+    differ == 0
 }

@@ -2,6 +2,7 @@
 //!
 //!     oracle compare [SEED [COUNT]]   thousands of random jobs, the published Rust beside ours and beside the paper as plain Rust
 //!     oracle large [SEED [COUNT]]     meshes of up to 2,048 cells
+//!     oracle refusals [SEED [COUNT]]  jobs with faults, ours beside the paper as plain Rust
 //!     oracle differences              the smallest inputs on which the Rust and the paper part
 //!     oracle batch-0                  one more: the Rust does not come back from batch size 0, and takes all memory that it can get
 //!     oracle record                   a sample of the published Rust's answers, to standard output
@@ -21,6 +22,10 @@ fn main() -> std::process::ExitCode {
     let agree = match command {
         "compare" => compare::run(number(arguments.get(1), 1), number(arguments.get(2), 3000)),
         "large" => compare::run_large(number(arguments.get(1), 1), number(arguments.get(2), 9)),
+        #[cfg(feature = "ours")]
+        "refusals" => {
+            compare::run_refusals(number(arguments.get(1), 1), number(arguments.get(2), 20000))
+        }
         #[cfg(rust_at_hand)]
         "differences" => {
             differences::run();

@@ -381,23 +381,72 @@ pub fn large_job(random: &mut Random, turn: usize) -> (&'static str, Job) {
     (name, job)
 }
 
-/// Lent numbers with up to `most` points a rule. Test and trial counts differ one time in three.
-pub fn numbers(random: &mut Random, job: &Job, most: usize) -> (Numbers, Size) {
-    let test = random.from_to(1, most);
+/// How many points a rule has: up to 3 and 4, or, where `many`, up to the paper's most.
+fn points(random: &mut Random, many: bool) -> Points {
+    let (distant, touching) = if many { (64, 2048) } else { (3, 4) };
+    let test = random.from_to(1, distant);
     let trial = if random.once_in(3) {
-        random.from_to(1, most)
+        random.from_to(1, distant)
     } else {
         test
     };
-    let points = Points {
-        touching: (0..28).map(|_| random.from_to(1, most + 1)).collect(),
+    Points {
+        touching: (0..28).map(|_| random.from_to(1, touching)).collect(),
         test,
         trial,
-    };
+    }
+}
+
+/// Lent numbers. Test and trial point counts differ one time in three or so. One job in 20 of those with up to four cells has many points.
+pub fn numbers(random: &mut Random, job: &Job) -> (Numbers, Size) {
+    let many = job.mesh.cells <= 4 && random.once_in(20);
+    let points = points(random, many);
     let size = match random.below(10) {
         0 => Size::Small,
         1 => Size::Large,
         _ => Size::Ordinary,
     };
     (Numbers::new(job, points, size, random), size)
+}
+
+/// Another number, near a bound or anywhere.
+fn other(random: &mut Random, bounds: &[u32]) -> u32 {
+    match random.below(bounds.len() + 1) {
+        i if i < bounds.len() => bounds[i],
+        _ => random.draw() as u32,
+    }
+}
+
+fn spoil_list(random: &mut Random, list: &mut Vec<u32>, count: u32) {
+    let at = random.below(list.len().max(1));
+    match random.below(5) {
+        0 => drop(list.pop()),
+        1 => list.push(0),
+        _ if list.is_empty() => (),
+        2 => list[at] = other(random, &[count, count - 1]),
+        3 => list[at] = list[random.below(list.len())],
+        _ => list[at] = random.below(count.clamp(1, 1 << 16) as usize) as u32,
+    }
+}
+
+/// One fault, or what may be one.
+pub fn spoil(random: &mut Random, job: &mut Job) {
+    let mesh = &mut job.mesh;
+    match random.below(10) {
+        0 => mesh.cells = [0, 1, 2048, 2049, mesh.cells + 1][random.below(5)],
+        1 => mesh.vertices = other(random, &[0, 2, 3, 4096, 4097, mesh.vertices - 1]),
+        2 => mesh.edges = other(random, &[0, 2, 3, 6144, 6145, mesh.edges - 1]),
+        3 => spoil_list(random, &mut mesh.cell_vertices, mesh.vertices),
+        4 | 5 => spoil_list(random, &mut mesh.cell_edges, mesh.edges),
+        6 => job.test = [random.below(5), random.below(5), random.below(13)].map(|n| n as u32),
+        7 => job.trial = [0, 0, random.below(13) as u32],
+        8 => job.batch = other(random, &[0, 1, 65535, 65536, u32::MAX]),
+        _ => {
+            job.integrand.first.kind = other(random, &[4, 5]);
+            job.integrand.second = random.once_in(2).then(|| Term {
+                kind: random.below(6) as u32,
+                factor: Some([f64::NAN, f64::INFINITY, 1.0][random.below(3)]),
+            });
+        }
+    }
 }

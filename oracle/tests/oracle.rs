@@ -104,7 +104,7 @@ fn patterns_in_order() {
 fn a_change_of_any_list_is_noticed() {
     let mut random = Random::new(11);
     let (job, _) = meshes::job(&mut random, meshes::Shape::Sphere, false);
-    let (numbers, _) = meshes::numbers(&mut random, &job, 2);
+    let (numbers, _) = meshes::numbers(&mut random, &job);
     let answer = published::answer(&job, &numbers).unwrap();
     assert_eq!(
         difference(&answer, &Model.answer(&job, &numbers).unwrap()),
