@@ -168,6 +168,15 @@ pub fn run_large(seed: u64, jobs: u64) -> bool {
     })
 }
 
+/// What a refusal's number says, 0 standing for none.
+#[cfg(feature = "ours")]
+fn said(number: u32) -> String {
+    match number {
+        0 => "accepted".to_string(),
+        _ => format!("refusal {number}"),
+    }
+}
+
 /// Jobs with faults, which the Rust has no refusals for: ours beside the paper as plain Rust.
 #[cfg(feature = "ours")]
 pub fn run_refusals(seed: u64, jobs: u64) -> bool {
@@ -187,12 +196,16 @@ pub fn run_refusals(seed: u64, jobs: u64) -> bool {
         let ours = number(oracle::ours::Ours.answer(&job, &numbers));
         *numbers_answered.entry(paper).or_insert(0) += 1;
         if paper != ours {
-            println!("job {seed}: the paper as plain Rust {paper}, ours {ours}");
+            println!(
+                "job {seed}: the paper as plain Rust {}, ours {}",
+                said(paper),
+                said(ours)
+            );
             differ += 1;
         }
     }
     for (number, n) in numbers_answered {
-        println!("{n:8} refusal {number}");
+        println!("{n:8} {}", said(number));
     }
     println!("{jobs} jobs with faults, {differ} answers differ");
     differ == 0
