@@ -1,11 +1,10 @@
--- The C form of an answer stands for it: read back, its refusal and its run are those that the definitions give, so what holds of a list of calls
--- holds of the same calls through C. A refused call hands the run back as it was, and a run begun from a refused planning gets 21. Assumes nothing.
+-- The C form of an answer stands for it: read back, its refusal and its run are those that the definitions give. A refused call hands the run back as it
+-- was, and a run begun from a refused planning gets 21. Assumes nothing.
 use Prim.Native.Nat.{ℕ, zero, suc}
 use mathlib.Core.Path.{_≡_, refl}
 use mathlib.Core.Bool.{Bool, true, false}
 use mathlib.Core.List.{List, [], _++_}
 use lib.Ieee.{Float}
-use Rattle.cell_pairs.specs.WorkList.{rec}
 use Rattle.cell_pair_assemblers.specs.Lent.{Touching, Distant}
 use Rattle.lists.specs.Bool.{_and_}
 use Rattle.lists.specs.Refusals.{Check, refusal, unless}
@@ -15,16 +14,16 @@ use Rattle.boundary_assemblers.specs.declared.WorkRecord.{WorkRecord}
 use Rattle.boundary_assemblers.specs.declared.Looked.{Looked}
 use Rattle.boundary_assemblers.specs.declared.Added.{Added}
 use Rattle.boundary_assemblers.specs.Planning.{planNumbers}
-use Rattle.boundary_assemblers.specs.Runs.{Plan, EntryLists, Answer, found, accepted, refused, begin, beginEntries, recordOf, rangesRight, stateChecks, lookRefusal, look, lookAnswer, lookedAnswer, lookedRun, advance, distantRefusal, touchingRefusal, entriesRefusal, addDistant, addTouching, addEntries, addAnswer, addedAnswer, addedRun}
+use Rattle.boundary_assemblers.specs.Runs.{Plan, EntryLists, begin, beginEntries, recordOf, rangesRight, stateChecks, lookRefusal, look, lookAnswer, lookedAnswer, lookedRun, advance, distantRefusal, touchingRefusal, entriesRefusal, addDistant, addTouching, addEntries, addAnswer, addedAnswer, addedRun}
 use Rattle.planning.specs.Arguments.{planningOf}
 use Rattle.bempp.specs.declared.CElement.{CElement}
 use Rattle.bempp.specs.declared.CIntegrand.{CIntegrand}
 use Rattle.bempp.specs.declared.CNumbers.{CNumbers}
-use Rattle.bempp.specs.declared.CRecord.{CRecord}
 use Rattle.bempp.specs.declared.CRun.{CRun}
 use Rattle.bempp.specs.declared.CLooked.{CLooked}
 use Rattle.bempp.specs.declared.CAdded.{CAdded}
 use Rattle.bempp.specs.Forms.{elementOf, integrandOf, numbersOf, runOf, cNumbers, cRun, cLooked, cAdded}
+use Rattle.bempp.specs.Calls.{lookedBy, addedBy}
 
 -- ---- planning and beginning
 
@@ -43,12 +42,8 @@ begin-entries-stands n = refl
 
 -- ---- look
 
-abbrev lookedBy : ℕ → CRecord → Answer
-lookedBy zero e = found (rec (e .pattern) (e .«test_cell») (e .«trial_cell»))
-lookedBy (suc n) e = refused (suc n)
-
 pub record LookStands (c : CRun) (x : CLooked) (a : Looked) : Type 0 where
-  pub answer : lookedBy (x .refusal) (x .«record») ≡ lookedAnswer a
+  pub answer : lookedBy x ≡ lookedAnswer a
   pub run : runOf (x .run) ≡ lookedRun a
   pub same : x .run ≡ c
 
@@ -62,12 +57,8 @@ look-stands c l = go (lookRefusal (runOf c) l) (recordOf (runOf c) l)
 
 -- ---- the adds and the entries call
 
-abbrev addedBy : ℕ → Answer
-addedBy zero = accepted
-addedBy (suc n) = refused (suc n)
-
 pub record AddStands (c : CRun) (x : CAdded) (a : Added) : Type 0 where
-  pub answer : addedBy (x .refusal) ≡ addedAnswer a
+  pub answer : addedBy x ≡ addedAnswer a
   pub run : runOf (x .run) ≡ addedRun a
   pub same : (x .refusal ≡ 0 → ⊥) → x .run ≡ c
 
