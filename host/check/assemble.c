@@ -1,4 +1,4 @@
-/* Whole assemblies on mesh M of document 01 and on an octahedron, through include/seivalto.h: it makes the calls of the program assembly_runs, with the same
+/* Whole assemblies on mesh M of the paper and on an octahedron, through include/seivalto.h: it makes the calls of the program assembly_runs, with the same
  * numbers, and prints what that prints. */
 #include <inttypes.h>
 #include <stdio.h>

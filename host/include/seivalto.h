@@ -46,15 +46,26 @@ typedef struct {
 } seivalto_element;
 
 /* A term. scaled: 0 for a bare term, whose factor is not read; any other number for one that carries the factor.
- * kind: 0 single layer, 1 double layer, 2 adjoint, 3 curl-curl, 4 normal-normal. */
+ * kind: 0 single layer, 1 double layer, 2 adjoint, 3 curl-curl, 4 normal-normal. The value of a bare term at a test and a trial point, where
+ * t, t1, t2 are table rows 0, 1, 2 of a test basis function, r, r1, r2 those of a trial one, k0 to k3 kernel numbers, n a normal and J a jacobian:
+ *   0  k0 * t * r
+ *   1  (k1 * n0 + k2 * n1 + k3 * n2) * t * r       with the trial normal
+ *   2  (-(k1 * n0 + k2 * n1 + k3 * n2)) * t * r    with the test normal
+ *   3  k0 * (P0 + P1 + P2) / test jdet / trial jdet, where Pm is (J(3 + m) * t1 - Jm * t2), with the test jacobian, times
+ *      (J(3 + m) * r1 - Jm * r2), with the trial jacobian
+ *   4  k0 * (Q0 + Q1 + Q2) * t * r, where Qm is trial nm * test nm
+ * So kinds 0, 3 and 4 read k0, and kinds 1 and 2 read k1 to k3. A factor stands on the left: factor * value. Here and below, products and sums go from
+ * left to right, and each is rounded. */
 typedef struct {
     uint32_t scaled;
     uint32_t kind;
     double factor;
 } seivalto_term;
 
-/* terms: 1 or 2; where it is 1 the second term is not read.
- * K, the kernel values of a point, is 4 if a kind is 1 or 2, else 1. D, the rows of a table, is 3 if a kind is 3, else 1. */
+/* terms: 1 or 2; where it is 1 the second term is not read, where it is 2 the value is that of the first plus that of the second.
+ * K, the kernel numbers of a point, is 4 (k0 to k3) if a kind is 1 or 2, else 1 (k0).
+ * D, the rows of a table, is 3 if a kind is 3, else 1: row 0 is the value of a basis function, row 1 its first derivative, row 2 its derivative in the
+ * second direction. */
 typedef struct {
     uint32_t terms;
     seivalto_term first;
@@ -89,7 +100,10 @@ typedef struct {
     uint32_t position;
 } seivalto_run;
 
-/* A record of the work list. pattern: 0 to 27 for a touching pair, 255 for a distant one. */
+/* A record of the work list. pattern: 255 for a distant pair. Of a touching pair, by the vertices that its cells share, at which local places:
+ *   one, at i of the test cell and j of the trial cell    3 * i + j
+ *   two, edge e of the test cell and g of the trial cell  9 + 2 * (3 * e + g), and 1 more if the first vertex of g is the second of e
+ *   three, each at the same place of both cells           27 */
 typedef struct {
     uint32_t pattern;
     uint32_t test_cell;
@@ -147,7 +161,11 @@ seivalto_looked seivalto_look(
  *   test_table D * T * test dim, trial_table D * R * trial dim   row i, point p, basis function f of P points at i + D * (p + P * f)
  *   kernel K * T * R                                             number d of test point t and trial point r at d + K * (t + T * r)
  *   test_geometry 10 * T, trial_geometry 10 * R                  jdet, normal 0 to 2, jacobian 0 to 5 of point p from 10 * p on
- *   matrix rows * columns                                        row i, column j at i + rows * j */
+ *   matrix rows * columns                                        row i, column j at i + rows * j
+ * A local entry is the sum, from 0 on, over the test points and for each over the trial points, of
+ *   value * (trial weight * trial jdet) * (test weight * test jdet)
+ * so what is lent is multiplied by no weight or jdet beforehand. The entry of test basis function i and trial basis function j is added at the row of DOF i
+ * of the test cell and the column of DOF j of the trial cell. */
 seivalto_added seivalto_add_distant(
     seivalto_run run,
     const uint32_t *test_dofs, size_t test_dofs_length,
@@ -165,7 +183,9 @@ seivalto_added seivalto_add_distant(
 
 /* Adds the local matrix of the touching pair at the run's position. P = points is from 1 to 2,048. These lengths are asked:
  *   weights P, test_table D * P * test dim, trial_table D * P * trial dim, test_geometry and trial_geometry 10 * P, matrix rows * columns
- *   kernel K * P, number d of point q at d + K * q */
+ *   kernel K * P, number d of point q at d + K * q
+ * Tables, geometry and matrix are laid out as above. A local entry is the sum, from 0 on, over the points, of
+ *   value * (weight * (test jdet * trial jdet)) */
 seivalto_added seivalto_add_touching(
     seivalto_run run,
     const uint32_t *test_dofs, size_t test_dofs_length,
@@ -181,7 +201,8 @@ seivalto_added seivalto_add_touching(
     double *matrix, size_t matrix_length);
 
 /* Of an entries run: writes row, column and value of each local entry of the touching pair at the run's position into three lists, each
- * (cells * cells - distant) * test dim * trial dim long, trial basis outer, from place (position - distant) * test dim * trial dim on. */
+ * (cells * cells - distant) * test dim * trial dim long, trial basis outer, from place (position - distant) * test dim * trial dim on. What it is lent beside
+ * run and plan, and how an entry is summed, is as in seivalto_add_touching. */
 seivalto_added seivalto_add_entries(
     seivalto_run run,
     const uint32_t *test_dofs, size_t test_dofs_length,

@@ -238,7 +238,7 @@ mod tests {
         unsafe { seivalto_look(run, dofs.as_ptr(), 1, dofs.as_ptr(), 1, work.as_ptr(), 3) }
     }
 
-    /// Adds the one pair of that mesh, with the numbers of F1 of document 01, to a matrix of one number.
+    /// Adds the one pair of that mesh, with the numbers of F1 of the paper, to a matrix of one number.
     fn added(run: CRun, work: &[u32; 3], matrix: &mut [f64; 1]) -> CAdded {
         let dofs = [0];
         let (weights, table, kernel) = ([0.5], [1.0], [0.25]);

@@ -207,7 +207,7 @@ const NUMBERED: [(u32, Refusal); 15] = [
 ];
 
 impl Refusal {
-    /// The number that document 01 gives it.
+    /// The number that the paper gives it.
     pub fn number(self) -> u32 {
         NUMBERED
             .iter()
@@ -233,7 +233,8 @@ impl fmt::Display for Refusal {
 
 impl std::error::Error for Refusal {}
 
-/// What a call with that refusal answers. It is proved that the library answers 0 or one of the numbers above.
+/// What a call with that refusal answers. That it is 0 or one of the numbers above is proved for each call: `plan-among` and the like in
+/// `crates/bempp/specs/Numbers.antt`.
 fn answered<T>(refusal: u32, answer: T) -> Result<T, Refusal> {
     if refusal == 0 {
         return Ok(answer);

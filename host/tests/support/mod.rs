@@ -33,7 +33,7 @@ impl OwnedMesh {
     }
 }
 
-/// Mesh M of document 01.
+/// Mesh M of the paper.
 pub fn mesh_m() -> OwnedMesh {
     OwnedMesh {
         cells: 3,
@@ -228,7 +228,7 @@ impl OwnedDistant {
         }
     }
 
-    /// Local entry (i, j) of one bare term of kind 0, by document 01.
+    /// Local entry (i, j) of one bare term of kind 0, by the paper.
     pub fn single_layer(&self, i: usize, j: usize) -> f64 {
         let (t, r) = (self.test_points, self.trial_points);
         let mut sum = 0.0;
@@ -293,7 +293,7 @@ impl OwnedTouching {
         }
     }
 
-    /// Local entry (i, j) of one bare term of kind 0, by document 01.
+    /// Local entry (i, j) of one bare term of kind 0, by the paper.
     pub fn single_layer(&self, i: usize, j: usize) -> f64 {
         let p = self.points;
         let mut sum = 0.0;
