@@ -1,6 +1,5 @@
-use mathlib.Core.Path.{_≡_, _∙_}
+-- `local_bench::copy` is safe and ends. Assumes nothing.
 use Prim.Native.Nat.{_-_, _≤_}
-use lib.ListN.{length, length-set}
 use borrow.Author.Needs.{needs}
 use Rattle.local_bench.proofs.copy.Statement.{statement}
 use Rattle.local_bench.proofs.copy.Tie as tie
