@@ -40,7 +40,7 @@ impl PlanNumbers {
 }
 
 // Record p of a work list.
-pub fn record_at(work: &[u32], p: usize) -> WorkRecord
+pub(crate) fn record_at(work: &[u32], p: usize) -> WorkRecord
     requires { ⌜ 3 * p + 3 ≤ length (now work) ⌝ }
     ensures { λ r. ⌜ r ≡ recordAt (now (work .entry)) p ⌝ }
 {
@@ -53,7 +53,7 @@ pub fn record_at(work: &[u32], p: usize) -> WorkRecord
 }
 
 // The DOFs of a cell.
-pub fn cell_dofs(dofs: &[u32], dim: usize, cell: usize) -> &[u32]
+pub(crate) fn cell_dofs(dofs: &[u32], dim: usize, cell: usize) -> &[u32]
     requires { ⌜ dim * cell + dim ≤ length (now dofs) ⌝ }
     ensures { λ r. ⌜ now r ≡ cellDofs (now (dofs .entry)) dim cell ⌝ }
 {
