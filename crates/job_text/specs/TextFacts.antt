@@ -68,15 +68,15 @@ room-first xs at rs ss h = omega (arith, length-append rs ss)
 pub room-second : {xs ys : List ℕ} {at m : ℕ} {rs : List ℕ} (ss : List ℕ) → Wrote numbers xs ys at m rs → Room numbers xs at (rs ++ ss) → Room numbers ys m ss
 room-second {xs} {ys} {at} {m} {rs} ss w h = omega (arith, length-append rs ss, w .cursor, wrote-length w)
 
-pub room-middle : {xs ys : List ℕ} {at m : ℕ} {rs : List ℕ} (ss ts : List ℕ) → Wrote numbers xs ys at m rs → Room numbers xs at (rs ++ (ss ++ ts)) → Room numbers ys m ss
-room-middle {ys = ys} {m = m} ss ts w h = room-first ys m ss ts (room-second (ss ++ ts) w h)
-
 -- ---- lines
 
 -- a line is three numbers, each with the byte after it
 pub line-parts : (p i j : ℕ) → lineOf (rec p i j) ≡ (decimal p ++ (32 ∷ [])) ++ ((decimal i ++ (32 ∷ [])) ++ (decimal j ++ (10 ∷ [])))
 unfolding lineOf
 line-parts p i j = simp append-assoc
+
+pub line-length : (p i j : ℕ) → length (lineOf (rec p i j)) ≡ length (decimal p) + length (decimal i) + length (decimal j) + 3
+line-length p i j = rw (line-parts p i j) (simp length-append (omega arith))
 
 -- `refused ` and a number
 pub refused-parts : (n : ℕ) → refusedLine n ≡ refusedWord ++ (decimal n ++ (10 ∷ []))
@@ -128,9 +128,7 @@ pub record Short (r : Rec) : Type 0 where
 
 line-short : (r : Rec) → Short r → length (lineOf r) ≤ 12
 line-short r h =
-    rw (line-parts (r .pattern) (r .test) (r .trial))
-    (simp length-append
-    (omega (arith, decimal-short (r .pattern) (h .pattern), decimal-short (r .test) (h .test), decimal-short (r .trial) (h .trial))))
+    omega (arith, line-length (r .pattern) (r .test) (r .trial), decimal-short (r .pattern) (h .pattern), decimal-short (r .test) (h .test), decimal-short (r .trial) (h .trial))
 
 pub lines-short : (rs : List Rec) → AllIn Short rs → length (flatMap lineOf rs) ≤ 12 * length rs
 unfolding AllIn flatMap

@@ -1,5 +1,4 @@
 // Writes the text that `worklist` prints, as bytes: decimal numbers, lines, `refused n`.
-ghost use mathlib.Core.Path.{_≡_};
 ghost use mathlib.Core.List.{[], _∷_, _++_};
 ghost use Prim.Native.Nat.{_+_, _*_, _≤_, _<_};
 ghost use lib.ListN.{length};
@@ -51,7 +50,7 @@ fn put_line(text: &mut [u8], at: usize, pattern: u32, test: u32, trial: u32) -> 
 }
 
 // The lines of a work list, three numbers a record.
-pub fn put_lines(work: &[u32], text: &mut [u8], at: usize) -> usize
+pub(crate) fn put_lines(work: &[u32], text: &mut [u8], at: usize) -> usize
     requires { ⌜ Room numbers (now text) at (linesOf (now work)) ⌝ }
     ensures { λ r. ⌜ Wrote numbers (now (text .entry)) (now (text .exit)) at r (linesOf (now (work .entry))) ⌝ }
 {
@@ -80,7 +79,7 @@ fn put_word(text: &mut [u8], at: usize) -> usize
 }
 
 // `refused n`.
-pub fn put_refused(text: &mut [u8], at: usize, n: u32) -> usize
+pub(crate) fn put_refused(text: &mut [u8], at: usize, n: u32) -> usize
     requires { ⌜ Room numbers (now text) at (refusedLine n) ⌝ }
     ensures { λ r. ⌜ Wrote numbers (now (text .entry)) (now (text .exit)) at r (refusedLine n) ⌝ }
 {

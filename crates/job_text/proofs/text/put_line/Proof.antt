@@ -1,8 +1,8 @@
 -- `job_text::text::put_line` meets its contract: a line is three numbers, each with the byte after it. Assumes nothing.
-use mathlib.Core.List.{[], _∷_, _++_}
-use Rattle.lists.specs.Writes.{wrote-more}
-use Rattle.job_text.specs.Text.{decimal}
-use Rattle.job_text.specs.TextFacts.{line-parts, room-first, room-second, room-middle}
+use native.Mathlib.Omega.{arith}
+use lib.ListN.{length-append}
+use Rattle.lists.specs.Writes.{wrote-more, wrote-length}
+use Rattle.job_text.specs.TextFacts.{line-parts, line-length}
 use borrow.Author.Needs.{needs}
 use Rattle.job_text.proofs.text.put_line.Statement.{statement}
 use Rattle.job_text.proofs.text.put_line.Tie as tie
@@ -10,20 +10,22 @@ use Rattle.job_text.proofs.text.put_line.Tie as tie
 put-number-requires : tie.Need-put-number-requires
 put-number-requires c κs =
     let s = c .before .before in
-    let room = rw (line-parts (s .args .pattern) (s .args .test) (s .args .trial)) at (s .pre) in
-    room-first (s .args .text .now) (s .args .at) (decimal (s .args .pattern) ++ (32 ∷ [])) ((decimal (s .args .test) ++ (32 ∷ [])) ++ (decimal (s .args .trial) ++ (10 ∷ []))) room
+    simp length-append (omega (arith, s .pre, line-length (s .args .pattern) (s .args .test) (s .args .trial)))
 
 put-number-requires-2 : tie.Need-put-number-requires-2
 put-number-requires-2 c κs =
     let s = c .before .before .before .before .before .before in
-    let room = rw (line-parts (s .args .pattern) (s .args .test) (s .args .trial)) at (s .pre) in
-    room-middle (decimal (s .args .test) ++ (32 ∷ [])) (decimal (s .args .trial) ++ (10 ∷ [])) (c .before .before .before .put-number .ensures) room
+    let a = c .before .before .before .put-number .ensures in
+    simp length-append
+    (omega (arith, s .pre, line-length (s .args .pattern) (s .args .test) (s .args .trial), simp length-append at (a .cursor), wrote-length a))
 
 put-number-requires-3 : tie.Need-put-number-requires-3
 put-number-requires-3 c κs =
     let s = c .before .before .before .before .before .before .before .before .before .before in
-    let room = rw (line-parts (s .args .pattern) (s .args .test) (s .args .trial)) at (s .pre) in
-    room-second (decimal (s .args .trial) ++ (10 ∷ [])) (c .before .before .before .put-number2 .ensures) (room-second ((decimal (s .args .test) ++ (32 ∷ [])) ++ (decimal (s .args .trial) ++ (10 ∷ []))) (c .before .before .before .before .before .before .before .put-number .ensures) room)
+    let a = c .before .before .before .before .before .before .before .put-number .ensures in
+    let b = c .before .before .before .put-number2 .ensures in
+    simp length-append
+    (omega (arith, s .pre, line-length (s .args .pattern) (s .args .test) (s .args .trial), simp length-append at (a .cursor), wrote-length a, simp length-append at (b .cursor), wrote-length b))
 
 same-length : tie.Need-same-length
 same-length c = search needs
