@@ -1,10 +1,11 @@
 -- What the first 7 bytes of a job say: length field, version and C. Assumes nothing.
 use Prim.Native.Nat.{ℕ, _+_, _*_}
-use mathlib.Core.Bool.{Bool, true, false, cond}
-use mathlib.Core.List.{List}
+use mathlib.Core.Bool.{Bool, true, false}
+use mathlib.Core.List.{List, [], _∷_}
 use lib.ListN.{length}
 use lib.Dec.{leb, eqb}
 use Rattle.lists.specs.Bool.{_and_}
+use Rattle.lists.specs.Refusals.{check, refusal}
 use Rattle.job.specs.declared.HeadRead.{HeadRead}
 use Rattle.job.specs.declared.HeadRead.the-variants.{Cells, Refused}
 use Rattle.job.specs.Job.{restLength, version, cellCount}
@@ -21,6 +22,11 @@ headAnswer false C = Refused 12
 unfoldable pub readHead : List ℕ → HeadRead
 readHead s = headAnswer (headRight s) (cellCount s)
 
--- 12 or 13 for a job whose first 7 bytes say more than 64 cells, by the number of its bytes
-abbrev pub largeRefusal : ℕ → ℕ → ℕ
-largeRefusal cells bytes = cond (eqb bytes (19 + 12 * cells)) 13 12
+-- checks 12 and 13 of a job of `worklist` whose first 7 bytes are right, by the C that they say and the number of its bytes
+abbrev pub sizeRefusal : ℕ → ℕ → ℕ
+sizeRefusal cells bytes = refusal (check 12 (eqb bytes (19 + 12 * cells)) ∷ check 13 (leb cells 64) ∷ [])
+
+-- how many bytes of an input are enough, by what its first 7 bytes say: where they are right, one more than such a job has
+abbrev pub enoughBytes : HeadRead → ℕ
+enoughBytes (Cells C) = 20 + 12 * C
+enoughBytes (Refused n) = 7

@@ -3,17 +3,17 @@ use Prim.Native.Nat.{ℕ, _+_, _*_, _≤_, _<_}
 use native.Mathlib.Omega.{arith}
 use mathlib.Core.Path.{_≡_, refl, sym, ap, _∙_}
 use mathlib.Core.Logic.{⊎-elim}
-use mathlib.Core.Bool.{Bool, true, false, _&&_, cond}
+use mathlib.Core.Bool.{Bool, true, false, not, _&&_}
 use mathlib.Core.List.{List}
 use lib.ListN.{length, take, getD, length-take}
 use lib.Seq.{length-take-le, getD-take, take-take}
 use lib.Dec.{leb, eqb}
 use borrow.Author.Tests.{leb-true, leb-false, eqb-true, eqb-false, eq-eqb, ne-eqb, le-leb, lt-leb}
-use Rattle.lists.specs.Bool.{_and_, _or_, true≢false, cases, and-left, and-right, and-both, and-no-left, and-no-right, or-none}
-use Rattle.lists.specs.Refusals.{refusal, refusal-fails, refusal-passes}
+use Rattle.lists.specs.Bool.{_and_, _or_, true≢false, cases, and-left, and-right, and-both, and-no-left, and-no-right, or-left, or-none}
+use Rattle.lists.specs.Refusals.{refusal, unless, refusal-fails}
 use Rattle.job.specs.declared.HeadRead.the-variants.{Cells, Refused}
-use Rattle.job.specs.Job.{restLength, version, cellCount, jobRight, jobSmall, jobChecks, jobRefusal}
-use Rattle.job.specs.Head.{headRight, headAnswer, readHead, largeRefusal}
+use Rattle.job.specs.Job.{restLength, version, cellCount, jobRight, jobSmall, jobRefusal}
+use Rattle.job.specs.Head.{headRight, headAnswer, readHead, sizeRefusal}
 
 -- ---- the code's tests
 
@@ -95,6 +95,11 @@ answer-cells : (b : Bool) (C D : ℕ) → headAnswer b C ≡ Cells D → (b ≡ 
 answer-cells true C D e = (refl, cc)
 answer-cells false C D e = let z : _≡_ {A = ℕ} 0 1 = cc in absurd (omega arith)
 
+-- they say C: they are there
+pub cells-long : (s : List ℕ) {C : ℕ} → readHead s ≡ Cells C → 7 ≤ length s
+unfolding readHead
+cells-long s {C} e = head-long s (answer-cells (headRight s) (cellCount s) C e .0)
+
 -- they are refused: so is the job, whatever follows
 pub head-wrong : (s : List ℕ) {n : ℕ} → readHead (take 7 s) ≡ Refused n → (n ≡ 12) × ((limited : Bool) → n ≡ jobRefusal s limited)
 unfolding readHead jobRefusal
@@ -102,17 +107,25 @@ head-wrong s {n} e =
     let wrong = answer-refused (headRight s) (cellCount s) n (sym (head-alone s) ∙ e) in
     (wrong .1, λ limited. wrong .1 ∙ sym (refusal-fails 12 _ _ (wrong-fails s (wrong .0))))
 
--- they say more than 64 cells: 12 or 13
-pub head-large : (s : List ℕ) {C : ℕ} → readHead (take 7 s) ≡ Cells C → 64 < C → largeRefusal C (length s) ≡ jobRefusal s true
+-- they say C: the number of bytes decides 12 and 13
+pub head-size : (s : List ℕ) {C : ℕ} → readHead (take 7 s) ≡ Cells C → sizeRefusal C (length s) ≡ jobRefusal s true
 unfolding readHead jobRefusal jobSmall
-head-large s {C} e large =
+head-size s {C} e =
     let right = answer-cells (headRight s) (cellCount s) C (sym (head-alone s) ∙ e) in
-    let many = rw (right .1) at large in
-    rw (right .1) (go (eqb (length s) (19 + 12 * cellCount s)) (sym (right-by-length s (right .0))) many)
+    rw (right .1, right-by-length s (right .0), limit (leb (cellCount s) 64))
   where
-    go : (b : Bool) → jobRight s ≡ b → 64 < cellCount s → cond b 13 12 ≡ refusal (jobChecks s true)
-    go true e many = sym (refusal-passes 12 _ _ e ∙ refusal-fails 13 _ _ (or-none _ _ (lt-leb _ _ many) refl))
-    go false e many = sym (refusal-fails 12 _ _ e)
+    limit : (b : Bool) → b or not true ≡ b
+    limit true = or-left _ _ refl
+    limit false = or-none _ _ refl refl
+
+-- more than 64 cells: never 0
+pub size-refused : (C n : ℕ) → 64 < C → 0 < sizeRefusal C n
+unfolding refusal unless
+size-refused C n large = rw (lt-leb C 64 large) (go (eqb n (19 + 12 * C)))
+  where
+    go : (b : Bool) → 0 < unless b 12 13
+    go true = omega arith
+    go false = omega arith
 
 -- they say C: one byte more than such a job has, and it is refused
 longer-fails : (s : List ℕ) (C : ℕ) → readHead s ≡ Cells C → 19 + 12 * C < length s → (limited : Bool) → 12 ≡ jobRefusal s limited

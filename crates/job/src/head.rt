@@ -4,7 +4,7 @@ use grid::wide;
 ghost use mathlib.Core.Path.{_≡_};
 ghost use Prim.Native.Nat.{_+_, _<_};
 ghost use lib.ListN.{length};
-ghost use Rattle.job.specs.Head.{headRight, readHead, largeRefusal};
+ghost use Rattle.job.specs.Head.{headRight, readHead, sizeRefusal};
 ghost use Rattle.job.specs.Job.{byte, two, four};
 
 // A byte as a number.
@@ -15,7 +15,7 @@ fn number(x: u8) -> u32
 }
 
 // Byte k.
-pub fn byte_at(bytes: &[u8], k: usize) -> u32
+pub(crate) fn byte_at(bytes: &[u8], k: usize) -> u32
     requires { ⌜ k < length (now bytes) ⌝ }
     ensures { λ r. ⌜ (r ≡ byte (now (bytes .entry)) k) × (r < 256) ⌝ }
 {
@@ -23,7 +23,7 @@ pub fn byte_at(bytes: &[u8], k: usize) -> u32
 }
 
 // The number of 2 bytes from byte k on.
-pub fn two_at(bytes: &[u8], k: usize) -> u32
+pub(crate) fn two_at(bytes: &[u8], k: usize) -> u32
     requires { ⌜ k + 1 < length (now bytes) ⌝ }
     ensures { λ r. ⌜ (r ≡ two (now (bytes .entry)) k) × (r < 65536) ⌝ }
 {
@@ -41,7 +41,7 @@ fn four_at(bytes: &[u8], k: usize) -> u32
 }
 
 // Whether the first 7 bytes are there and right.
-pub fn head_right(bytes: &[u8]) -> bool
+pub(crate) fn head_right(bytes: &[u8]) -> bool
     ensures { λ r. ⌜ r ≡ headRight (now (bytes .entry)) ⌝ }
 {
     if bytes.len() < 7 {
@@ -53,7 +53,7 @@ pub fn head_right(bytes: &[u8]) -> bool
     (version == 1) & (rest == 15 + 12 * cells)
 }
 
-// What the first 7 bytes say: `head-wrong`, `head-large` and `head-longer` of specs/HeadFacts have what they decide.
+// What the first 7 bytes say: `head-wrong`, `head-size` and `head-longer` of specs/HeadFacts have what they decide.
 pub fn read_head(bytes: &[u8]) -> HeadRead
     ensures { λ r. ⌜ r ≡ readHead (now (bytes .entry)) ⌝ }
 {
@@ -63,13 +63,15 @@ pub fn read_head(bytes: &[u8]) -> HeadRead
     HeadRead::Refused(12)
 }
 
-// 12 or 13, for a job whose first 7 bytes say more than 64 cells, and of which so many bytes came.
-pub fn large_refusal(cells: u32, bytes: usize) -> u32
-    ensures { λ r. ⌜ r ≡ largeRefusal cells bytes ⌝ }
+// Checks 12 and 13 of a job of `worklist` whose first 7 bytes are right and say so many cells, and of which so many bytes came.
+pub fn size_refusal(cells: u32, bytes: usize) -> u32
+    ensures { λ r. ⌜ r ≡ sizeRefusal cells bytes ⌝ }
 {
-    if bytes == 19 + 12 * wide(cells) {
-        13
-    } else {
-        12
+    if bytes != 19 + 12 * wide(cells) {
+        return 12;
     }
+    if 64 < cells {
+        return 13;
+    }
+    0
 }

@@ -3,8 +3,8 @@ mod head;
 mod reading;
 
 use function::Element;
-pub use head::large_refusal;
 pub use head::read_head;
+pub use head::size_refusal;
 pub use reading::read_job;
 
 // The numbers of a job that stand before its lists: C, V, E, the two elements and the batch size.

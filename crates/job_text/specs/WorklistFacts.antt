@@ -2,12 +2,11 @@
 use Prim.Native.Nat.{ℕ, zero, suc, _+_, _*_, _≤_, _<_}
 use native.Mathlib.Omega.{arith}
 use mathlib.Core.Path.{_≡_, refl, sym, ap, _∙_}
-use mathlib.Core.Bool.{Bool, true, false, cond}
+use mathlib.Core.Bool.{true}
 use mathlib.Core.Logic.{⊎-elim}
 use mathlib.Core.List.{List, _++_}
 use lib.ListN.{length, take, drop}
-use lib.Seq.{take-all}
-use lib.Dec.{eqb}
+use lib.Seq.{take-all, take-append-le}
 use Rattle.lists.specs.Bounded.{lt-or-le}
 use Rattle.lists.specs.Refusals.{refusal-zero, refusal-passes, refusal-first}
 use Rattle.lists.specs.Stores.{sets-front}
@@ -16,11 +15,12 @@ use Rattle.boundary_assemblers.specs.Planning.{listsFor, planChecks, planRefusa
 use Rattle.job.specs.declared.JobNumbers.{JobNumbers}
 use Rattle.job.specs.declared.JobRead.{JobRead}
 use Rattle.job.specs.declared.JobRead.the-variants.{Whole, Refused}
+use Rattle.job.specs.declared.HeadRead.{HeadRead}
 use Rattle.job.specs.declared.HeadRead.the-variants as head
 use Rattle.job.specs.Job.{jobChecks, jobRefusal, readJob, vertexList, edgeList}
 use Rattle.job.specs.JobFacts.{read-numbers, read-refusal, limited-small, take-vertices, take-edges}
-use Rattle.job.specs.Head.{readHead, largeRefusal}
-use Rattle.job.specs.HeadFacts.{head-wrong, head-large, head-longer}
+use Rattle.job.specs.Head.{readHead, sizeRefusal, enoughBytes}
+use Rattle.job.specs.HeadFacts.{head-alone, head-wrong, head-size, size-refused, head-longer}
 use Rattle.job_text.specs.Text.{refusedLine, numbersPlanning, jobPlanning, worklistRefusal, textAnswer, worklist}
 use Rattle.job_text.specs.TextFacts.{refused-short}
 use Rattle.job_text.specs.PlannedText.{answerText, plannedText, rightText, Printed}
@@ -94,12 +94,8 @@ pub head-wrong-text : (s : List ℕ) {n : ℕ} → readHead (take 7 s) ≡ head.
 head-wrong-text s e = let r = head-wrong s e in refused-worklist s (r .1 true) (omega (arith, r .0))
 
 -- they say more than 64 cells: the number of bytes gives the text
-pub head-large-text : (s : List ℕ) {C : ℕ} → readHead (take 7 s) ≡ head.Cells C → 64 < C → refusedLine (largeRefusal C (length s)) ≡ worklist s
-head-large-text s {C} e large = refused-worklist s (head-large s e large) (some (eqb (length s) (19 + 12 * C)))
-  where
-    some : (b : Bool) → 0 < cond b 13 12
-    some true = omega arith
-    some false = omega arith
+pub head-large-text : (s : List ℕ) {C : ℕ} → readHead (take 7 s) ≡ head.Cells C → 64 < C → refusedLine (sizeRefusal C (length s)) ≡ worklist s
+head-large-text s {C} e large = refused-worklist s (head-size s e) (size-refused C (length s) large)
 
 -- they say C: one byte more than such a job has is enough, whatever follows
 pub head-enough-text : (s : List ℕ) {C : ℕ} → readHead (take 7 s) ≡ head.Cells C → worklist (take (20 + 12 * C) s) ≡ worklist s
@@ -112,6 +108,20 @@ head-enough-text s {C} e = ⊎-elim shorter longer (lt-or-le (length s) (20 + 12
     longer h =
         let r = head-longer s e h true in
         sym (refused-worklist (take (20 + 12 * C) s) (r .0) (omega arith)) ∙ refused-worklist s (r .1) (omega arith)
+
+-- so that what follows enough bytes changes nothing
+pub enough-text : (s rest : List ℕ) → enoughBytes (readHead s) ≤ length s → worklist (s ++ rest) ≡ worklist s
+enough-text s rest = go (readHead s) refl
+  where
+    same : 7 ≤ length s → {h : HeadRead} → readHead s ≡ h → readHead (take 7 (s ++ rest)) ≡ h
+    same long e = ap readHead (take-append-le 7 s rest long) ∙ head-alone s ∙ e
+
+    go : (h : HeadRead) → readHead s ≡ h → enoughBytes h ≤ length s → worklist (s ++ rest) ≡ worklist s
+    go (head.Cells C) e long =
+        sym (head-enough-text (s ++ rest) (same (omega arith) e))
+        ∙ ap worklist (take-append-le (20 + 12 * C) s rest long)
+        ∙ head-enough-text s (head-alone s ∙ e)
+    go (head.Refused n) e long = sym (head-wrong-text (s ++ rest) (same long e)) ∙ head-wrong-text s (head-alone s ∙ e)
 
 -- ---- how the text stands in the array
 

@@ -2,15 +2,27 @@
 // the first 7 bytes say how long a job is, and one byte more than that is read, to see that it is not longer.
 use grid::wide;
 use job::HeadRead;
-use job::large_refusal;
 use job::read_head;
+use job::size_refusal;
 use job_text::refused_text;
 use job_text::worklist_text;
 use libc::STDIN_FILENO;
 use libc::STDOUT_FILENO;
 ghost use mathlib.Core.Path.{_≡_};
-ghost use Prim.Native.Nat.{_≤_, min};
-ghost use lib.ListN.{length};
+ghost use Prim.Native.Nat.{_+_, _*_, _≤_, min};
+ghost use lib.ListN.{length, take};
+ghost use Rattle.job.specs.declared.HeadRead.the-variants.{Cells};
+ghost use Rattle.job.specs.Head.{readHead, sizeRefusal};
+ghost use Rattle.job_text.specs.Text.{refusedLine, worklist};
+ghost use Rattle.job_text.specs.PlannedText.{Printed};
+ghost use Rattle.worklist_io.specs.Answers.{Shown, Answers};
+
+// How many bytes came; how many of them, the first, stand in the list that they were read into; and how long the text is.
+struct Answered {
+    came: usize,
+    kept: usize,
+    text: usize,
+}
 
 fn least(a: usize, b: usize) -> usize
     ensures { λ r. ⌜ r ≡ min a b ⌝ }
@@ -45,33 +57,50 @@ fn skip(piece: &mut [u8], n: usize) -> usize
 // The text of the first n bytes.
 fn text_of(bytes: &[u8], n: usize, text: &mut [u8; 49152]) -> usize
     requires { ⌜ n ≤ length (now bytes) ⌝ }
-    ensures { λ r. ⌜ r ≤ 49152 ⌝ }
+    ensures { λ r. ⌜ Printed (now (text .entry)) (now (text .exit)) r (worklist (take n (now (bytes .entry)))) ⌝ }
 {
     worklist_text(&bytes[..n], text)
 }
 
 // The text of a job of at most 64 cells, whose first 7 bytes are read.
-fn small_text(bytes: &mut [u8], cells: u32, text: &mut [u8; 49152]) -> usize
-    requires { ⌜ (cells ≤ 64) × (788 ≤ length (now bytes)) ⌝ }
-    ensures { λ r. ⌜ r ≤ 49152 ⌝ }
+fn small_text(bytes: &mut [u8], cells: u32, text: &mut [u8; 49152]) -> Answered
+    requires { ⌜ (cells ≤ 64) × (788 ≤ length (now bytes)) × (readHead (take 7 (now bytes)) ≡ Cells cells) ⌝ }
+    ensures { λ r. ⌜ Answers (now (bytes .exit)) (now (text .exit)) r ⌝ }
 {
-    let more = read_some(&mut bytes[7..], 13 + 12 * wide(cells));
-    text_of(bytes, 7 + more, text)
+    let came = 7 + read_some(&mut bytes[7..], 13 + 12 * wide(cells));
+    let shown = text_of(bytes, came, text);
+    Answered {
+        came: came,
+        kept: came,
+        text: shown,
+    }
 }
 
-// The text of a job of more than 64 cells, whose first 7 bytes are read.
-fn large_text(cells: u32, text: &mut [u8; 49152]) -> usize
-    ensures { λ r. ⌜ r ≤ 49152 ⌝ }
+// The text `refused n`, where so many bytes came and are kept.
+fn refused_answer(n: u32, came: usize, kept: usize, text: &mut [u8; 49152]) -> Answered
+    ensures { λ r. ⌜ (r .came ≡ came) × (r .kept ≡ kept) × Shown (now (text .exit)) (r .text) (refusedLine n) ⌝ }
 {
-    let more = skip(text, 13 + 12 * wide(cells));
-    let refused = large_refusal(cells, 7 + more);
-    refused_text(refused, text)
+    let shown = refused_text(n, text);
+    Answered {
+        came: came,
+        kept: kept,
+        text: shown,
+    }
+}
+
+// The text of a job of more than 64 cells, whose first 7 bytes are read: the others are not kept.
+fn large_text(cells: u32, text: &mut [u8; 49152]) -> Answered
+    ensures { λ r. ⌜ (r .came ≤ 20 + 12 * cells) × (r .kept ≡ 7) × Shown (now (text .exit)) (r .text) (refusedLine (sizeRefusal cells (r .came))) ⌝ }
+{
+    let came = 7 + skip(text, 13 + 12 * wide(cells));
+    let refused = size_refusal(cells, came);
+    refused_answer(refused, came, 7, text)
 }
 
 // The text of a job of so many cells, whose first 7 bytes are read.
-fn text_by_cells(bytes: &mut [u8], cells: u32, text: &mut [u8; 49152]) -> usize
-    requires { ⌜ 788 ≤ length (now bytes) ⌝ }
-    ensures { λ r. ⌜ r ≤ 49152 ⌝ }
+fn text_by_cells(bytes: &mut [u8], cells: u32, text: &mut [u8; 49152]) -> Answered
+    requires { ⌜ (788 ≤ length (now bytes)) × (readHead (take 7 (now bytes)) ≡ Cells cells) ⌝ }
+    ensures { λ r. ⌜ Answers (now (bytes .exit)) (now (text .exit)) r ⌝ }
 {
     if cells <= 64 {
         return small_text(bytes, cells, text);
@@ -82,36 +111,39 @@ fn text_by_cells(bytes: &mut [u8], cells: u32, text: &mut [u8; 49152]) -> usize
 // What the first n bytes say.
 fn head_of(bytes: &[u8], n: usize) -> HeadRead
     requires { ⌜ n ≤ length (now bytes) ⌝ }
+    ensures { λ r. ⌜ r ≡ readHead (take n (now (bytes .entry))) ⌝ }
 {
     read_head(&bytes[..n])
 }
 
 // The text of what standard input holds.
-fn answer(bytes: &mut [u8], text: &mut [u8; 49152]) -> usize
+fn answer(bytes: &mut [u8], text: &mut [u8; 49152]) -> Answered
     requires { ⌜ 788 ≤ length (now bytes) ⌝ }
-    ensures { λ r. ⌜ r ≤ 49152 ⌝ }
+    ensures { λ r. ⌜ Answers (now (bytes .exit)) (now (text .exit)) r ⌝ }
 {
     let got = read_some(bytes, 7);
     let head = head_of(bytes, got);
     match head {
         HeadRead::Cells(cells) => text_by_cells(bytes, cells, text),
-        HeadRead::Refused(n) => refused_text(n, text),
+        HeadRead::Refused(n) => refused_answer(n, got, got, text),
     }
 }
 
-// Prints the first n bytes, by one call.
+// Prints the first n bytes, by one call; where they are not all taken, says so on standard error.
 fn print(text: &[u8], n: usize)
     requires { ⌜ n ≤ length (now text) ⌝ }
 {
-    io::write_all(STDOUT_FILENO, &text[..n]);
+    if !io::write_all(STDOUT_FILENO, &text[..n]) {
+        os::fail(b"worklist: standard output");
+    }
 }
 
 // Answers, and prints the answer.
 fn run(bytes: &mut [u8], text: &mut [u8; 49152])
     requires { ⌜ 788 ≤ length (now bytes) ⌝ }
 {
-    let n = answer(bytes, text);
-    print(text, n);
+    let answered = answer(bytes, text);
+    print(text, answered.text);
 }
 
 // The whole of the program `worklist`.

@@ -11,8 +11,17 @@ slice-aggregate-write-all c = let s = c .before .before in sym (length-take-le (
 write-all-requires : tie.Need-write-all-requires
 write-all-requires c κs = search needs
 
+slice-aggregate-fail : tie.Need-slice-aggregate-fail
+slice-aggregate-fail c = search needs
+
+fail-requires : tie.Need-fail-requires
+fail-requires c κs = search needs
+
 returns : tie.Need-returns
 returns c = search needs
 
+returns-2 : tie.Need-returns-2
+returns-2 c = search needs
+
 pub print-spec : {M : Type 1} → statement M
-print-spec = tie.close (tie.spec slice-aggregate-write-all write-all-requires returns)
+print-spec = tie.close (tie.spec slice-aggregate-write-all write-all-requires slice-aggregate-fail fail-requires returns returns-2)
