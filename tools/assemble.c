@@ -1,5 +1,6 @@
-/* Writes the file stdout of the program assembly_runs: whole assemblies on mesh M of document 01 and on an octahedron.
- * Written from document 01 alone, by the plainest means: each list is what its sentence says, found by search, and a local entry is summed on its own.
+/* Writes the file stdout of the program assembly_runs: whole assemblies on mesh M of the paper and on an octahedron.
+ * Written from the paper alone, by the plainest means: each list is what its sentence says, found by search, and a local entry is summed on its own.
+ * The answers 23, 9, 10 and 20 are known from the order of the calls, not worked out by checks.
  *   cc -O0 -ffp-contract=off -o assemble tools/assemble.c && ./assemble > crates/assembly_runs/stdout
  */
 #include <inttypes.h>

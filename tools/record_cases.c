@@ -1,8 +1,8 @@
-// Records the cases that the program local_runs runs: local matrices of touching and distant pairs, with their results, written from document 01 alone,
+// Records the cases that the program local_runs runs: local matrices of touching and distant pairs, with their results, written from the paper alone,
 // one entry at a time, with one rounding per operation. Compile without contraction of products and sums, and run, in the top folder:
 //
-//     cc -std=c11 -O1 -ffp-contract=off -o /tmp/record_cases tools/record_cases.c
-//     /tmp/record_cases > crates/local_runs/data/cases
+//     cc -std=c11 -O1 -ffp-contract=off -o record_cases tools/record_cases.c
+//     ./record_cases > crates/local_runs/data/cases
 //
 // It draws from a generator of its own with a fixed seed, so each run writes the same bytes. What occurs in the results goes to standard error.
 //
@@ -30,7 +30,7 @@ struct cell_pair {
     struct list test_weights, trial_weights, test_table, trial_table, kernel, test_geometry, trial_geometry, entries;
 };
 
-// ---- document 01: widths, point values, local entries
+// ---- the paper: widths, point values, local entries
 
 static int any_kind(const struct cell_pair *c, int kind) {
     for (int i = 0; i < c->terms; i++)

@@ -1,6 +1,6 @@
 // Whole assemblies: plans a mesh, begins a dense run on a matrix that is not zero, looks and adds until 20, with refused calls between, and prints each
-// record with the answers, then the bits of the matrix; then the same of an entries run. On mesh M of document 01 and on an octahedron.
-// The file stdout is made by tools/assemble.c, a C program written from document 01.
+// record with the answers, then the bits of the matrix; then the same of an entries run. On mesh M of the paper and on an octahedron.
+// The file stdout is made by tools/assemble.c, a C program written from the paper.
 mod calls;
 mod numbers;
 mod printing;

@@ -1,5 +1,5 @@
 // Runs the recorded cases of data/cases, each a pair of cells with what is lent for it, and compares every entry of its local matrix by its bits.
-// tools/record_cases.c made the file: a C implementation written from document 01. Its head says how, and what a line holds.
+// tools/record_cases.c made the file: a C implementation written from the paper. Its head says how, and what a line holds.
 use integrands::Integrand;
 use integrands::Term;
 use libc::STDOUT_FILENO;
