@@ -1,5 +1,5 @@
 -- What holds of a mesh that checks 1 to 3 pass (`Fine`), and the laws of cells that share an entity. Assumes nothing.
-use Prim.Native.Nat.{ℕ, zero, suc, _+_, _*_, _<_, _≤_}
+use Prim.Native.Nat.{ℕ, zero, suc, _+_, _*_, _/_, _%_, _<_, _≤_}
 use native.Mathlib.Nat.{add-comm}
 use native.Mathlib.Omega.{arith}
 use mathlib.Core.Bool.{Bool, true, false, cond}
@@ -8,13 +8,12 @@ use mathlib.Core.Logic.{_⊎_, inl, inr, ⊎-elim}
 use mathlib.Core.List.{List, [], _∷_}
 use lib.ListN.{length, getD}
 use lib.Dec.{leb, ltb, eqb}
-use borrow.Author.Tests.{leb-true, ltb-true, eqb-true, eqb-false, eq-eqb, not-true}
-use Rattle.lists.specs.Bool.{_and_, _or_, iff-sides, same-test, and-left, and-right, or-cases, or-no-left, or-no-right}
-use Rattle.lists.specs.Bounded.{all, all-at, some-at, some-which, lt-or-le}
+use borrow.Author.Tests.{leb-true, ltb-true, lt-ltb, eqb-true, eqb-false, eq-eqb, not-true}
+use Rattle.lists.specs.Bool.{_and_, _or_, iff, iff-sides, same-test, and-left, and-right, or-cases, or-no-left, or-no-right}
+use Rattle.lists.specs.Bounded.{all, all-at, all-of, some-at, some-which, lt-or-le}
 use Rattle.lists.specs.Refusals.{check, refusal, refusal-zero}
 use Rattle.grid.specs.Cells.{entity, has, share, firstEnd, secondEnd, sameTwo}
-use Rattle.grid.specs.Mesh.{Mesh, within, allBelow, distinct, placesAgree, edgeRule, cellsRight, verticesRight, edgesRight, meshChecks}
-use Rattle.grid.specs.EdgeRule.{place-at}
+use Rattle.grid.specs.Mesh.{Mesh, within, allBelow, distinct, sameVertices, placesAgree, edgeRule, cellsRight, verticesRight, edgesRight, meshChecks}
 
 -- ---- what a check that passes says
 
@@ -27,6 +26,15 @@ within-high low high x e = leb-true x high (and-right (leb low x) (leb x high) e
 pub below-at : (l : List ℕ) (bound : ℕ) → allBelow l bound ≡ true → (k : ℕ) → k < length l → getD l k 0 < bound
 unfolding allBelow
 below-at l bound e k h = ltb-true (getD l k 0) bound (all-at (length l) (λ k. ltb (getD l k 0) bound) e k h)
+
+-- what check 2 says of the vertex numbers, whatever V is
+pub below-most : (l : List ℕ) (v : ℕ) (d : Bool) → within 3 4096 v and allBelow l v and d ≡ true → allBelow l 4096 ≡ true
+unfolding allBelow
+below-most l v d e =
+    let both : within 3 4096 v and allBelow l v ≡ true = and-left (within 3 4096 v and allBelow l v) d e in
+    let few : v ≤ 4096 = within-high 3 4096 v (and-left (within 3 4096 v) (allBelow l v) both) in
+    let below : allBelow l v ≡ true = and-right (within 3 4096 v) (allBelow l v) both in
+    all-of (length l) _ (λ k lk. lt-ltb (getD l k 0) 4096 (omega (arith, below-at l v below k lk)))
 
 -- the length that checks 1 and 3 read
 pub length-last : (a : Bool) (n m : ℕ) → a and eqb n m ≡ true → n ≡ m
@@ -141,7 +149,7 @@ vertices-differ vs i h =
     none : (a or b) or c ≡ false
     none = not-true ((a or b) or c) h
 
-same-two-cases : (a b c d : ℕ) → sameTwo a b c d ≡ true → ((a ≡ c) × (b ≡ d)) ⊎ ((a ≡ d) × (b ≡ c))
+pub same-two-cases : (a b c d : ℕ) → sameTwo a b c d ≡ true → ((a ≡ c) × (b ≡ d)) ⊎ ((a ≡ d) × (b ≡ c))
 unfolding sameTwo
 same-two-cases a b c d h =
     ⊎-elim (λ e. inl (eqb-true a c (and-left (eqb a c) (eqb b d) e), eqb-true b d (and-right (eqb a c) (eqb b d) e)))
@@ -153,10 +161,10 @@ choice-below : (b : Bool) (x y n : ℕ) → x < n → y < n → cond b x y < n
 choice-below true x y n lx ly = lx
 choice-below false x y n lx ly = ly
 
-first-below : (p : ℕ) → firstEnd p < 3
+pub first-below : (p : ℕ) → firstEnd p < 3
 first-below p = choice-below (eqb p 0) 1 0 3 (omega arith) (omega arith)
 
-second-below : (p : ℕ) → secondEnd p < 3
+pub second-below : (p : ℕ) → secondEnd p < 3
 second-below p = choice-below (eqb p 2) 1 2 3 (omega arith) (omega arith)
 
 ends-sum : (p : ℕ) → p < 3 → firstEnd p + secondEnd p + p ≡ 3
@@ -164,6 +172,18 @@ ends-sum zero l = refl
 ends-sum (suc zero) l = refl
 ends-sum (suc (suc zero)) l = refl
 ends-sum (suc (suc (suc p))) l = absurd (omega arith)
+
+-- place 3i + p is local edge p of cell i
+place-at : (vs es : List ℕ) (i p j q : ℕ) → p < 3 → q < 3
+    → placesAgree vs es (3 * i + p) (3 * j + q)
+    ≡ iff (eqb (entity es i p) (entity es j q)) (sameTwo (entity vs i (firstEnd p)) (entity vs i (secondEnd p)) (entity vs j (firstEnd q)) (entity vs j (secondEnd q)))
+unfolding placesAgree sameVertices
+place-at vs es i p j q lp lq =
+    let i′ : (3 * i + p) / 3 ≡ i = omega arith in
+    let p′ : (3 * i + p) % 3 ≡ p = omega arith in
+    let j′ : (3 * j + q) / 3 ≡ j = omega arith in
+    let q′ : (3 * j + q) % 3 ≡ q = omega arith in
+    rw (i′, p′, j′, q′)
 
 module _ (m : Mesh) (h : Fine m) (i : ℕ) (l : i < m .cells) (p q : ℕ) (lp : p < 3) (lq : q < 3) where
   vertex : ℕ → ℕ

@@ -1,7 +1,7 @@
--- Three entities a cell (`Cells`), the mesh with checks 1 to 3 (`Mesh`), the edge rule read cell by cell (`EdgeRule`), what holds of a mesh that
--- the checks pass, and of cells that share an entity (`Facts`).
+-- Three entities a cell (`Cells`), the mesh with checks 1 to 3 (`Mesh`), what holds of a mesh that the checks pass, and
+-- of cells that share an entity (`Facts`), the edge rule by keys (`EdgeRule`).
 pub mod Cells
 pub mod Mesh
-pub mod EdgeRule
 pub mod Facts
+pub mod EdgeRule
 pub mod Examples

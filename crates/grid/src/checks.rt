@@ -3,6 +3,7 @@ use crate::edge_rule::keeps_edge_rule;
 use crate::is_within;
 ghost use mathlib.Core.Path.{_≡_};
 ghost use Prim.Native.Nat.{_+_, _*_, _≤_};
+ghost use mathlib.Core.Bool.{true};
 ghost use lib.ListN.{length};
 ghost use lib.Dec.{eqb};
 ghost use Rattle.lists.specs.Bool.{_and_};
@@ -80,14 +81,14 @@ fn edges_sized(cells: u32, edges: u32, cell_edges: &[u32]) -> bool
         & all_below(cell_edges, edges)
 }
 
-// Check 3, of a mesh that passes check 1.
+// Check 3, of a mesh that passes checks 1 and 2.
 fn edges_right(cells: u32, edges: u32, cell_vertices: &[u32], cell_edges: &[u32]) -> bool
-    requires { ⌜ length (now «cell_vertices») ≡ 3 * cells ⌝ }
+    requires { ⌜ (length (now «cell_vertices») ≡ 3 * cells) × (allBelow (now «cell_vertices») 4096 ≡ true) ⌝ }
     ensures { λ r. ⌜ r ≡ (within 3 6144 edges and eqb (length (now («cell_edges» .entry))) (3 * cells)
         and allBelow (now («cell_edges» .entry)) edges and edgeRule (now («cell_vertices» .entry)) (now («cell_edges» .entry))) ⌝ }
 {
     if edges_sized(cells, edges, cell_edges) {
-        keeps_edge_rule(cell_vertices, cell_edges, cells as usize)
+        keeps_edge_rule(cell_vertices, cell_edges, cells as usize, edges as usize)
     } else {
         false
     }

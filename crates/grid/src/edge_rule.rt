@@ -1,82 +1,88 @@
 // The edge rule: two edge places have the same number exactly when they join the same two vertices.
+use crate::wide;
 ghost use mathlib.Core.Path.{_≡_};
-ghost use Prim.Native.Nat.{_+_, _*_, _≤_};
+ghost use Prim.Native.Nat.{_+_, _*_, _/_, _<_, _≤_};
+ghost use mathlib.Core.Bool.{true};
 ghost use lib.ListN.{length};
-ghost use lib.Dec.{eqb};
-ghost use Rattle.lists.specs.Bool.{iff};
-ghost use Rattle.grid.specs.Cells.{sameTwo};
-ghost use Rattle.grid.specs.Mesh.{edgeRule};
-ghost use Rattle.grid.specs.EdgeRule.{agreesWith, cellsAgree, agreesBefore};
+ghost use Rattle.grid.specs.Cells.{firstEnd, secondEnd};
+ghost use Rattle.grid.specs.Mesh.{allBelow, edgeRule};
+ghost use Rattle.grid.specs.EdgeRule.{pairKey, edgeKey, hasKey, mayHave, Numbered};
 
-// Whether {a, b} and {c, d} are the same two vertices.
-fn same_two(a: u32, b: u32, c: u32, d: u32) -> bool
-    ensures { λ r. ⌜ r ≡ sameTwo a b c d ⌝ }
+// The key of two vertices: a number below 2²⁴, the same in either order, and another for any other two.
+fn pair_key(a: u32, b: u32) -> u32
+    requires { ⌜ (a < 4096) × (b < 4096) ⌝ }
+    ensures { λ r. ⌜ r ≡ pairKey a b ⌝ }
 {
-    ((a == c) & (b == d)) | ((a == d) & (b == c))
+    if a < b { 4096 * a + b } else { 4096 * b + a }
 }
 
-// Whether an edge that joins a and b and one that joins c and d have the same number exactly when these are the same two.
-fn places_agree(number: u32, a: u32, b: u32, other: u32, c: u32, d: u32) -> bool
-    ensures { λ r. ⌜ r ≡ iff (eqb number other) (sameTwo a b c d) ⌝ }
+// The first of the two local vertices that a local edge joins.
+fn first_end(edge: usize) -> usize
+    ensures { λ r. ⌜ (r ≡ firstEnd edge) × (r < 3) ⌝ }
 {
-    let same = same_two(a, b, c, d);
-    if number == other { same } else { !same }
+    if edge == 0 { 1 } else { 0 }
 }
 
-// Whether an edge that joins a and b agrees so with each of the three edges of a cell.
-fn agrees_with(vertices: &[u32], edges: &[u32], number: u32, a: u32, b: u32, cell: usize) -> bool
-    requires { ⌜ (3 * cell + 3 ≤ length (now vertices)) × (3 * cell + 3 ≤ length (now edges)) ⌝ }
-    ensures { λ r. ⌜ r ≡ agreesWith (now (vertices .entry)) (now (edges .entry)) number a b cell ⌝ }
+// The second of the two.
+fn second_end(edge: usize) -> usize
+    ensures { λ r. ⌜ (r ≡ secondEnd edge) × (r < 3) ⌝ }
 {
-    let at = 3 * cell;
-    let x = vertices[at];
-    let y = vertices[at + 1];
-    let z = vertices[at + 2];
-    places_agree(number, a, b, edges[at], y, z)
-        & places_agree(number, a, b, edges[at + 1], x, z)
-        & places_agree(number, a, b, edges[at + 2], x, y)
+    if edge == 2 { 1 } else { 2 }
 }
 
-// Whether each edge of cell i agrees so with each of cell j.
-fn cells_agree(vertices: &[u32], edges: &[u32], i: usize, j: usize) -> bool
-    requires { ⌜ (3 * i + 3 ≤ length (now vertices)) × (3 * i + 3 ≤ length (now edges)) ⌝ }
-    requires { ⌜ (3 * j + 3 ≤ length (now vertices)) × (3 * j + 3 ≤ length (now edges)) ⌝ }
-    ensures { λ r. ⌜ r ≡ cellsAgree (now (vertices .entry)) (now (edges .entry)) i j ⌝ }
+// The key of the two vertices that an edge place joins.
+fn edge_key(vertices: &[u32], place: usize) -> u32
+    requires { ⌜ (3 * (place / 3) + 3 ≤ length (now vertices)) × (allBelow (now vertices) 4096 ≡ true) ⌝ }
+    ensures { λ r. ⌜ r ≡ edgeKey (now (vertices .entry)) place ⌝ }
 {
-    let at = 3 * i;
-    let x = vertices[at];
-    let y = vertices[at + 1];
-    let z = vertices[at + 2];
-    agrees_with(vertices, edges, edges[at], y, z, j)
-        & agrees_with(vertices, edges, edges[at + 1], x, z, j)
-        & agrees_with(vertices, edges, edges[at + 2], x, y, j)
+    let at = 3 * (place / 3);
+    let first = first_end(place % 3);
+    let second = second_end(place % 3);
+    pair_key(vertices[at + first], vertices[at + second])
 }
 
-// Cell i against each cell up to it.
-fn agrees_before(vertices: &[u32], edges: &[u32], i: usize) -> bool
-    requires { ⌜ (3 * i + 3 ≤ length (now vertices)) × (3 * i + 3 ≤ length (now edges)) ⌝ }
-    ensures { λ r. ⌜ r ≡ agreesBefore (now (vertices .entry)) (now (edges .entry)) i ⌝ }
+// Whether an edge below the count has the key. With no way out before the end, it is compiled to several comparisons at a time.
+fn has_key(keys: &[u32; 6144], count: usize, key: u32) -> bool
+    requires { ⌜ count ≤ 6144 ⌝ }
+    ensures { λ r. ⌜ r ≡ hasKey (now (keys .entry)) count key ⌝ }
 {
-    let mut j = 0;
-    while j <= i {
-        if cells_agree(vertices, edges, i, j) {
-            j += 1;
-        } else {
-            return false;
-        }
+    let mut found = false;
+    let mut m = 0;
+    while m < count {
+        found = found | (keys[m] == key);
+        m += 1;
     }
-    true
+    found
 }
 
-// Whether any two edge places of the mesh agree so. That two do is the same in either order, so each cell is held against those up to it alone.
-pub(crate) fn keeps_edge_rule(vertices: &[u32], edges: &[u32], cells: usize) -> bool
-    requires { ⌜ (length (now vertices) ≡ 3 * cells) × (length (now edges) ≡ 3 * cells) ⌝ }
+// Whether an edge may have the key: it has it already, or it has none and no other edge has this one.
+fn may_have(keys: &[u32; 6144], count: usize, edge: usize, key: u32) -> bool
+    requires { ⌜ (count ≤ 6144) × (edge < count) ⌝ }
+    ensures { λ r. ⌜ r ≡ mayHave (now (keys .entry)) count edge key ⌝ }
+{
+    let known = keys[edge];
+    if known == key {
+        true
+    } else {
+        (known == 16777216) & !has_key(keys, count, key)
+    }
+}
+
+// Whether each edge, of so many, has one key at all its places, and no two edges have the same. An edge that no place passed has is marked with 2²⁴, which is
+// no key.
+pub(crate) fn keeps_edge_rule(vertices: &[u32], edges: &[u32], cells: usize, count: usize) -> bool
+    requires { ⌜ Numbered (now vertices) (now edges) cells count ⌝ }
     ensures { λ r. ⌜ r ≡ edgeRule (now (vertices .entry)) (now (edges .entry)) ⌝ }
 {
-    let mut i = 0;
-    while i < cells {
-        if agrees_before(vertices, edges, i) {
-            i += 1;
+    let places = 3 * cells;
+    let mut keys = [16777216u32; 6144];
+    let mut k = 0;
+    while k < places {
+        let edge = wide(edges[k]);
+        let key = edge_key(vertices, k);
+        if may_have(&keys, count, edge, key) {
+            keys[edge] = key;
+            k += 1;
         } else {
             return false;
         }

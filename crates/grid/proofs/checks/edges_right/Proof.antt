@@ -1,7 +1,7 @@
--- `grid::checks::edges_right` meets its contract: the first call has tested the edge list's length, which the second asks for. Assumes nothing.
+-- `grid::checks::edges_right` meets its contract: the first call has tested the edge list's length and bound, which the second asks for. Assumes nothing.
 use mathlib.Core.Path.{sym, _∙_}
 use Rattle.lists.specs.Bool.{_and_, and-no-left}
-use Rattle.grid.specs.Facts.{length-before}
+use Rattle.grid.specs.EdgeRule.{numbered}
 use borrow.Author.Needs.{needs}
 use Rattle.grid.proofs.checks.edges_right.Statement.{statement}
 use Rattle.grid.proofs.checks.edges_right.Tie as tie
@@ -11,7 +11,8 @@ edges-sized-requires c κs = search needs
 
 keeps-edge-rule-requires : tie.Need-keeps-edge-rule-requires
 keeps-edge-rule-requires c κs =
-    (c .before .before .before .before .pre, length-before _ _ _ _ (sym (c .before .edges-sized .ensures) ∙ c .if1 .taken))
+    numbered _ _ _ _ (c .before .before .before .before .pre .0) (c .before .before .before .before .pre .1)
+    (sym (c .before .edges-sized .ensures) ∙ c .if1 .taken)
 
 returns : tie.Need-returns
 unfolding _and_

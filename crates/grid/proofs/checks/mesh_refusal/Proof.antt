@@ -3,7 +3,7 @@ use mathlib.Core.Path.{sym, _∙_}
 use Rattle.lists.specs.Bool.{turned, passed}
 use Rattle.lists.specs.Refusals.{refusal-none, refusal-fails, refusal-passes}
 use Rattle.grid.specs.Mesh.{cellsRight, verticesRight, edgesRight}
-use Rattle.grid.specs.Facts.{length-last}
+use Rattle.grid.specs.Facts.{below-most, length-last}
 use borrow.Author.Needs.{needs}
 use Rattle.grid.proofs.checks.mesh_refusal.Statement.{statement}
 use Rattle.grid.proofs.checks.mesh_refusal.Tie as tie
@@ -15,7 +15,10 @@ vertices-right-requires : tie.Need-vertices-right-requires
 vertices-right-requires c κs = length-last _ _ _ (passed (c .before .cells-right .ensures) (c .if1 .left))
 
 edges-right-requires : tie.Need-edges-right-requires
-edges-right-requires c κs = length-last _ _ _ (passed (c .before .before .before .cells-right .ensures) (c .before .before .if1 .left))
+edges-right-requires c κs = (
+  length-last _ _ _ (passed (c .before .before .before .cells-right .ensures) (c .before .before .if1 .left)),
+  below-most _ (c .before .before .before .before .before .before .args .vertices) _ (passed (c .before .vertices-right .ensures) (c .if2 .left)),
+)
 
 returns : tie.Need-returns
 unfolding cellsRight
