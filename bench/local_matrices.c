@@ -1,5 +1,6 @@
-// Times local matrices of touching and of distant pairs, checks 9 to 11 included, against two C loops of the same sums: one entry at a time (plain), and
-// points outermost. The kinds are fixed at compile time in both, and neither checks anything. `bench/run-local-matrices` builds and runs it.
+// Times adds of touching and of distant pairs, through the C interface, against two C loops of the sums of their local matrices: one entry at a time (plain),
+// and points outermost. The kinds are fixed at compile time in both loops, and neither checks anything. The time of ours is that of a whole add: checks 20 to 23
+// and 9 to 11, the local matrix, and its sums into the matrix. `bench/run-local-matrices` builds and runs it.
 //
 // Each line: pair, terms, dim, points a side, nanoseconds of ours, of plain, of outermost, then ours/plain and ours/outermost. Thread time, best of some
 // rounds. A result that differs from the plain loop's in a bit ends the run.
@@ -9,14 +10,7 @@
 #include <stdlib.h>
 #include <string.h>
 #include <time.h>
-
-// The functions of the crate local_bench: a lent slice is its address and its length.
-uint32_t bench_touching(uint32_t terms, uint32_t scaled1, double factor1, uint32_t kind1, uint32_t scaled2, double factor2, uint32_t kind2, size_t m, size_t n,
-    size_t points, const double *weights, size_t, const double *test_table, size_t, const double *trial_table, size_t, const double *kernel, size_t,
-    const double *test_geometry, size_t, const double *trial_geometry, size_t, double *entries);
-uint32_t bench_distant(uint32_t terms, uint32_t scaled1, double factor1, uint32_t kind1, uint32_t scaled2, double factor2, uint32_t kind2, size_t m, size_t n,
-    size_t test_points, size_t trial_points, const double *test_weights, size_t, const double *trial_weights, size_t, const double *test_table, size_t,
-    const double *trial_table, size_t, const double *kernel, size_t, const double *test_geometry, size_t, const double *trial_geometry, size_t, double *entries);
+#include "seivalto.h"
 
 #define INLINE static inline __attribute__((always_inline))
 #define FACTOR1 0.7
@@ -149,20 +143,56 @@ struct form {
 #define ROW(name, terms, s1, k1, s2, k2) {#name, terms, s1, k1, s2, k2, {tp_##name, dp_##name}, {to_##name, do_##name}},
 static const struct form forms[] = {FORMS(ROW)};
 
-// ---- ours
+// ---- ours: a run on mesh M of the paper, at a record of the wanted kind
 
-static void ours(const struct form *f, int distant, const struct lent *a) {
-    const size_t T = a->test_points, R = a->trial_points, m = a->m, n = a->n;
-    const size_t K = width(f->terms, f->k1, f->k2), D = rows(f->terms, f->k1, f->k2);
-    uint32_t refused = distant
-        ? bench_distant(f->terms, f->s1, FACTOR1, f->k1, f->s2, FACTOR2, f->k2, m, n, T, R, a->test_weights, T, a->trial_weights, R, a->test_table, D * T * m,
-              a->trial_table, D * R * n, a->kernel, K * T * R, a->test_geometry, 10 * T, a->trial_geometry, 10 * R, a->entries)
-        : bench_touching(f->terms, f->s1, FACTOR1, f->k1, f->s2, FACTOR2, f->k2, m, n, T, a->test_weights, T, a->test_table, D * T * m, a->trial_table,
-              D * R * n, a->kernel, K * T, a->test_geometry, 10 * T, a->trial_geometry, 10 * R, a->entries);
-    if (refused) {
-        fprintf(stderr, "refused: %u\n", refused);
+struct ours {
+    seivalto_run run;
+    seivalto_record record;
+    uint32_t test_dofs[30], trial_dofs[30], work[27];
+    size_t dofs, size;
+    double matrix[900];
+};
+
+static void accepted(uint32_t refusal) {
+    if (refusal) {
+        fprintf(stderr, "refused: %u\n", refusal);
         exit(1);
     }
+}
+
+static void plan(struct ours *o, const struct form *f, int distant, size_t dim) {
+    static const uint32_t vertices[] = {0, 1, 2, 1, 3, 2, 4, 5, 6}, edges[] = {0, 1, 2, 3, 0, 4, 5, 6, 7};
+    const seivalto_element e = {dim >= 3, dim >= 6, dim == 1 ? 1 : dim == 10 ? 4 : 0};
+    const seivalto_integrand integrand = {f->terms, {f->s1, f->k1, FACTOR1}, {f->s2, f->k2, FACTOR2}};
+    uint32_t test_colours[3], trial_colours[3], test_owners[90], trial_owners[90];
+    o->dofs = 3 * dim;
+    seivalto_planned planned = seivalto_plan(3, 7, 8, vertices, 9, edges, 9, e, e, 1, integrand, o->test_dofs, o->dofs, o->trial_dofs, o->dofs, test_colours, 3,
+        trial_colours, 3, test_owners, 3 * o->dofs, trial_owners, 3 * o->dofs, o->work, 27);
+    accepted(planned.refusal);
+    o->size = (size_t)planned.numbers.rows * planned.numbers.columns;
+    o->run = seivalto_begin(planned.numbers);
+    o->run.position = distant ? 0 : planned.numbers.distant;
+    seivalto_looked looked = seivalto_look(o->run, o->test_dofs, o->dofs, o->trial_dofs, o->dofs, o->work, 27);
+    accepted(looked.refusal);
+    o->record = looked.record;
+    memset(o->matrix, 0, sizeof o->matrix);
+}
+
+// The run stays where it is, so each call adds the same pair again.
+static void add(struct ours *o, const struct form *f, int distant, const struct lent *a) {
+    const size_t T = a->test_points, R = a->trial_points, m = a->m, n = a->n;
+    const size_t K = width(f->terms, f->k1, f->k2), D = rows(f->terms, f->k1, f->k2);
+    seivalto_added added = distant
+        ? seivalto_add_distant(o->run, o->test_dofs, o->dofs, o->trial_dofs, o->dofs, o->work, 27, T, R, a->test_weights, T, a->trial_weights, R, a->test_table,
+              D * T * m, a->trial_table, D * R * n, a->kernel, K * T * R, a->test_geometry, 10 * T, a->trial_geometry, 10 * R, o->matrix, o->size)
+        : seivalto_add_touching(o->run, o->test_dofs, o->dofs, o->trial_dofs, o->dofs, o->work, 27, T, a->test_weights, T, a->test_table, D * T * m,
+              a->trial_table, D * R * n, a->kernel, K * T, a->test_geometry, 10 * T, a->trial_geometry, 10 * R, o->matrix, o->size);
+    accepted(added.refusal);
+}
+
+// Entry (i, j) of the pair, where the matrix has it.
+static double added_entry(const struct ours *o, size_t dim, size_t i, size_t j) {
+    return o->matrix[o->test_dofs[dim * o->record.test_cell + i] + (size_t)o->run.numbers.rows * o->trial_dofs[dim * o->record.trial_cell + j]];
 }
 
 // ---- timing
@@ -173,10 +203,10 @@ static double now(void) {
     return 1e9 * t.tv_sec + t.tv_nsec;
 }
 
-static double once(const struct form *f, int distant, int which, const struct lent *a, int turns) {
+static double once(const struct form *f, int distant, int which, struct ours *o, const struct lent *a, int turns) {
     double start = now();
     for (int k = 0; k < turns; k++)
-        if (which == 0) ours(f, distant, a);
+        if (which == 0) add(o, f, distant, a);
         else if (which == 1) f->plain[distant](a);
         else f->outermost[distant](a);
     return (now() - start) / turns;
@@ -193,24 +223,31 @@ static double *numbers(size_t count, double low, double high) {
 }
 
 static void compare(const struct form *f, int distant, size_t dim, size_t points, int rounds) {
-    double entries[3][100];
+    double entries[100];
+    struct ours o;
     struct lent a = {dim, dim, points, points, numbers(points, 0, 1), numbers(points, 0, 1), numbers(3 * points * dim, -1, 1), numbers(3 * points * dim, -1, 1),
-        numbers(4 * points * points, -1, 1), numbers(10 * points, 0.5, 1), numbers(10 * points, 0.5, 1), entries[0]};
+        numbers(4 * points * points, -1, 1), numbers(10 * points, 0.5, 1), numbers(10 * points, 0.5, 1), entries};
     double best[3] = {1e18, 1e18, 1e18};
     int turns[3];
-    for (int which = 0; which < 3; which++) {
-        a.entries = entries[which];
-        double guess = once(f, distant, which, &a, 3);
-        turns[which] = guess > 20000 ? 1 : (int)(20000 / guess) + 1;
-        if (memcmp(entries[0], entries[which], dim * dim * sizeof(double))) {
-            fprintf(stderr, "%s %s %zu %zu: another result\n", distant ? "distant" : "touching", f->name, dim, points);
-            exit(1);
+    plan(&o, f, distant, dim);
+    add(&o, f, distant, &a);
+    for (int which = 1; which < 3; which++) {
+        once(f, distant, which, &o, &a, 1);
+        for (size_t k = 0; k < dim * dim; k++) {
+            double x = added_entry(&o, dim, k % dim, k / dim);
+            if (memcmp(&x, &entries[k], sizeof x)) {
+                fprintf(stderr, "%s %s %zu %zu: another result\n", distant ? "distant" : "touching", f->name, dim, points);
+                exit(1);
+            }
         }
+    }
+    for (int which = 0; which < 3; which++) {
+        double guess = once(f, distant, which, &o, &a, 3);
+        turns[which] = guess > 20000 ? 1 : (int)(20000 / guess) + 1;
     }
     for (int k = 0; k < rounds; k++)
         for (int which = 0; which < 3; which++) {
-            a.entries = entries[which];
-            double t = once(f, distant, which, &a, turns[which]);
+            double t = once(f, distant, which, &o, &a, turns[which]);
             if (t < best[which]) best[which] = t;
         }
     printf("%s %-10s %2zu %2zu %9.0f %9.0f %9.0f  %5.2f %5.2f\n", distant ? "distant " : "touching", f->name, dim, points, best[0], best[1], best[2],

@@ -5,7 +5,7 @@ use crate::printing::print_number;
 use boundary_assemblers::Added;
 use boundary_assemblers::Looked;
 use boundary_assemblers::Run;
-use boundary_assemblers::WorkRecord;
+use work_records::WorkRecord;
 
 // The answer of an add, printed, and the run that it hands back.
 fn answered(a: Added) -> Run {
@@ -169,9 +169,9 @@ fn print_record(e: WorkRecord) {
     print(b"\n");
     print_number(e.pattern);
     print(b" ");
-    print_number(e.test_cell);
+    print_number(e.test);
     print(b" ");
-    print_number(e.trial_cell);
+    print_number(e.trial);
     print(b":");
 }
 

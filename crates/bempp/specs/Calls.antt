@@ -4,11 +4,9 @@ use Prim.Native.Nat.{ℕ, zero, suc}
 use mathlib.Core.List.{List, [], _∷_, _++_}
 use lib.Ieee.{Float}
 use Rattle.lists.specs.Fold.{over}
-use Rattle.cell_pairs.specs.WorkList.{rec}
-use Rattle.boundary_assemblers.specs.Runs.{Plan, EntryLists, look, addDistant, addTouching, addEntries, distantMatrix, touchingMatrix, entriesWritten, Answer, found, accepted, refused}
-use Rattle.boundary_assemblers.specs.Machine.{Call, looks, addsDistant, addsTouching}
-use Rattle.boundary_assemblers.specs.EntriesMachine as Entries
-use Rattle.boundary_assemblers.specs.EntriesMachine.{EntriesCall, writes}
+use Rattle.work_records.specs.Records.{rec}
+use Rattle.runs.specs.Runs.{Plan, EntryLists, look, addDistant, addTouching, addEntries, distantMatrix, touchingMatrix, entriesWritten, Answer, found, accepted, refused}
+use Rattle.runs.specs.Calls.{Call, looks, addsDistant, addsTouching, addsEntries}
 use Rattle.bempp.specs.declared.CRecord.{CRecord}
 use Rattle.bempp.specs.declared.CRun.{CRun}
 use Rattle.bempp.specs.declared.CLooked.{CLooked}
@@ -31,47 +29,30 @@ acceptedOr (suc n) = refused (suc n)
 abbrev pub addedBy : CAdded → Answer
 addedBy x = acceptedOr (x .refusal)
 
--- ---- a dense run
+-- ---- a run
 
--- The run last handed back, the matrix, and the answers so far
+-- The run last handed back, the matrix, the entry lists, and the answers so far
 pub record CProgress : Type 0 where
   pub run : CRun
   pub matrix : List Float
+  pub lists : EntryLists
   pub answers : List Answer
 
 -- one call
 unfoldable pub cCall : Plan → Call → CProgress → CProgress
 cCall l looks s =
     let x = cLooked (s .run) (look (runOf (s .run)) l) in
-    record { run = x .run; matrix = s .matrix; answers = s .answers ++ (lookedBy x ∷ []) }
+    record { run = x .run; matrix = s .matrix; lists = s .lists; answers = s .answers ++ (lookedBy x ∷ []) }
 cCall l (addsDistant a) s =
     let x = cAdded (s .run) (addDistant (runOf (s .run)) l (s .matrix) a) in
-    record { run = x .run; matrix = distantMatrix (runOf (s .run)) l (s .matrix) a; answers = s .answers ++ (addedBy x ∷ []) }
+    record { run = x .run; matrix = distantMatrix (runOf (s .run)) l (s .matrix) a; lists = s .lists; answers = s .answers ++ (addedBy x ∷ []) }
 cCall l (addsTouching a) s =
     let x = cAdded (s .run) (addTouching (runOf (s .run)) l (s .matrix) a) in
-    record { run = x .run; matrix = touchingMatrix (runOf (s .run)) l (s .matrix) a; answers = s .answers ++ (addedBy x ∷ []) }
-
--- a list of calls, the first one first, from a run and a matrix
-unfoldable pub cCallAll : Plan → List Call → CRun → List Float → CProgress
-cCallAll l calls c M = over (cCall l) calls (record { run = c; matrix = M; answers = [] })
-
--- ---- an entries run
-
--- The run last handed back, the three lists, and the answers so far
-pub record CEntriesProgress : Type 0 where
-  pub run : CRun
-  pub lists : EntryLists
-  pub answers : List Answer
-
--- one call
-unfoldable pub cEntriesCall : Plan → EntriesCall → CEntriesProgress → CEntriesProgress
-cEntriesCall l Entries.looks s =
-    let x = cLooked (s .run) (look (runOf (s .run)) l) in
-    record { run = x .run; lists = s .lists; answers = s .answers ++ (lookedBy x ∷ []) }
-cEntriesCall l (writes a) s =
+    record { run = x .run; matrix = touchingMatrix (runOf (s .run)) l (s .matrix) a; lists = s .lists; answers = s .answers ++ (addedBy x ∷ []) }
+cCall l (addsEntries a) s =
     let x = cAdded (s .run) (addEntries (runOf (s .run)) l (s .lists) a) in
-    record { run = x .run; lists = entriesWritten (runOf (s .run)) l (s .lists) a; answers = s .answers ++ (addedBy x ∷ []) }
+    record { run = x .run; matrix = s .matrix; lists = entriesWritten (runOf (s .run)) l (s .lists) a; answers = s .answers ++ (addedBy x ∷ []) }
 
--- a list of calls, the first one first, from a run and three lists
-unfoldable pub cEntriesCallAll : Plan → List EntriesCall → CRun → EntryLists → CEntriesProgress
-cEntriesCallAll l calls c e = over (cEntriesCall l) calls (record { run = c; lists = e; answers = [] })
+-- a list of calls, the first one first, from a run, a matrix and three lists
+unfoldable pub cCallAll : Plan → List Call → CRun → List Float → EntryLists → CProgress
+cCallAll l calls c M e = over (cCall l) calls (record { run = c; matrix = M; lists = e; answers = [] })

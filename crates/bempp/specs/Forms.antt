@@ -7,15 +7,9 @@ use Rattle.function.specs.declared.Element.{Element}
 use Rattle.integrands.specs.declared.Term.{Term}
 use Rattle.integrands.specs.declared.Term.the-variants.{Bare, Scaled}
 use Rattle.integrands.specs.declared.Integrand.{Integrand}
-use Rattle.boundary_assemblers.specs.declared.PlanNumbers.{PlanNumbers}
-use Rattle.boundary_assemblers.specs.declared.Planned.{Planned}
-use Rattle.boundary_assemblers.specs.declared.Planned.the-variants.{Ready, Refused as PlanRefused}
-use Rattle.boundary_assemblers.specs.declared.Run.{Run}
-use Rattle.boundary_assemblers.specs.declared.WorkRecord.{WorkRecord}
-use Rattle.boundary_assemblers.specs.declared.Looked.{Looked}
-use Rattle.boundary_assemblers.specs.declared.Looked.the-variants.{Found, Refused as LookRefused}
-use Rattle.boundary_assemblers.specs.declared.Added.{Added}
-use Rattle.boundary_assemblers.specs.declared.Added.the-variants.{Accepted, Refused as AddRefused}
+use Rattle.work_records.specs.declared.WorkRecord.{WorkRecord}
+use Rattle.plans.specs.Planning.{PlanNumbers, Planned, ready, refused as not-planned}
+use Rattle.runs.specs.Runs.{Run, Reply, Answer, found, accepted, refused}
 use Rattle.bempp.specs.declared.CElement.{CElement}
 use Rattle.bempp.specs.declared.CTerm.{CTerm}
 use Rattle.bempp.specs.declared.CIntegrand.{CIntegrand}
@@ -92,8 +86,8 @@ noNumbers test trial f =
     }
 
 abbrev pub cPlanned : CElement → CElement → CIntegrand → Planned → CPlanned
-cPlanned test trial f (Ready n) = record { refusal = 0; numbers = cNumbers test trial f n }
-cPlanned test trial f (PlanRefused v) = record { refusal = v; numbers = noNumbers test trial f }
+cPlanned test trial f (ready n) = record { refusal = 0; numbers = cNumbers test trial f n }
+cPlanned test trial f (not-planned v) = record { refusal = v; numbers = noNumbers test trial f }
 
 -- a run that begins, with the numbers as the host gave them
 abbrev pub cRun : CNumbers → Run → CRun
@@ -104,18 +98,26 @@ abbrev pub moved : CRun → ℕ → CRun
 moved c p = record { numbers = c .numbers; entries = c .entries; position = p }
 
 abbrev pub cRecord : WorkRecord → CRecord
-cRecord e = record { pattern = e .pattern; «test_cell» = e .«test_cell»; «trial_cell» = e .«trial_cell» }
+cRecord e = record { pattern = e .pattern; «test_cell» = e .test; «trial_cell» = e .trial }
 
 -- in its place where look refuses
 abbrev pub noRecord : CRecord
 noRecord = record { pattern = 0; «test_cell» = 0; «trial_cell» = 0 }
 
--- look hands the host's run back
-abbrev pub cLooked : CRun → Looked → CLooked
-cLooked c (Found r e) = record { refusal = 0; run = c; «record» = cRecord e }
-cLooked c (LookRefused r v) = record { refusal = v; run = c; «record» = noRecord }
+-- the paper's number of an answer: 0 where the call is accepted
+abbrev pub answerNumber : Answer → ℕ
+answerNumber (found e) = 0
+answerNumber accepted = 0
+answerNumber (refused n) = n
 
--- an accepted add hands the host's run back at its new position, a refused one as it was
-abbrev pub cAdded : CRun → Added → CAdded
-cAdded c (Accepted r) = record { refusal = 0; run = moved c (r .position) }
-cAdded c (AddRefused r v) = record { refusal = v; run = c }
+abbrev pub answerRecord : Answer → CRecord
+answerRecord (found e) = cRecord e
+answerRecord accepted = noRecord
+answerRecord (refused n) = noRecord
+
+-- the host's run goes back at the position that the call leaves it
+abbrev pub cLooked : CRun → Reply → CLooked
+cLooked c g = record { refusal = answerNumber (g .answer); run = moved c (g .run .position); «record» = answerRecord (g .answer) }
+
+abbrev pub cAdded : CRun → Reply → CAdded
+cAdded c g = record { refusal = answerNumber (g .answer); run = moved c (g .run .position) }

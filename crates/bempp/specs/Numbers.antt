@@ -7,11 +7,9 @@ use lib.Dec.{eqb}
 use lib.Ieee.{Float}
 use Rattle.lists.specs.Bool.{_and_, _or_, and-left, and-right}
 use Rattle.lists.specs.Refusals.{Check, refusal, unless}
-use Rattle.boundary_assemblers.specs.declared.Run.{Run}
-use Rattle.boundary_assemblers.specs.declared.WorkRecord.{WorkRecord}
-use Rattle.boundary_assemblers.specs.declared.PlanNumbers.{PlanNumbers}
-use Rattle.boundary_assemblers.specs.Planning.{Planning, Lists, planChecks, planRefusal, planAnswer, plan, planNumbers}
-use Rattle.boundary_assemblers.specs.Runs.{Plan, EntryLists, recordOf, lookRefusal, distantRefusal, touchingRefusal, entriesRefusal, lookAnswer, addAnswer, look, addDistant, addTouching, addEntries}
+use Rattle.plans.specs.Planning.{Planning, Lists, PlanNumbers, planChecks, planRefusal, planAnswer, plan, planNumbers}
+use Rattle.runs.specs.Runs.{Run, Plan, EntryLists, Answer, found, accepted, reply, recordOf, advance, lookRefusal, distantRefusal, touchingRefusal, entriesRefusal, look, addDistant, addTouching, addEntries}
+use Rattle.work_records.specs.declared.WorkRecord.{WorkRecord}
 use Rattle.cell_pair_assemblers.specs.Lent.{Touching, Distant}
 use Rattle.bempp.specs.declared.CElement.{CElement}
 use Rattle.bempp.specs.declared.CIntegrand.{CIntegrand}
@@ -53,11 +51,11 @@ planned-number : (test trial : CElement) (f : CIntegrand) (n : ℕ) (p : PlanNum
 planned-number test trial f zero p = refl
 planned-number test trial f (suc n) p = refl
 
-looked-number : (c : CRun) (n : ℕ) (r : Run) (e : WorkRecord) → cLooked c (lookAnswer n r e) .refusal ≡ n
+looked-number : (c : CRun) (n : ℕ) (r : Run) (e : WorkRecord) → cLooked c (reply n r r (found e)) .refusal ≡ n
 looked-number c zero r e = refl
 looked-number c (suc n) r e = refl
 
-added-number : (c : CRun) (n : ℕ) (r : Run) → cAdded c (addAnswer n r) .refusal ≡ n
+added-number : (c : CRun) (n : ℕ) (r : Run) → cAdded c (reply n r (advance r) accepted) .refusal ≡ n
 added-number c zero r = refl
 added-number c (suc n) r = refl
 

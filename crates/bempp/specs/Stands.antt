@@ -3,19 +3,15 @@
 use Prim.Native.Nat.{ℕ, zero, suc}
 use mathlib.Core.Path.{_≡_, refl}
 use mathlib.Core.Bool.{Bool, true, false}
-use mathlib.Core.List.{List, [], _++_}
+use mathlib.Core.List.{List, [], _∷_, _++_}
 use lib.Ieee.{Float}
 use Rattle.cell_pair_assemblers.specs.Lent.{Touching, Distant}
-use Rattle.lists.specs.Bool.{_and_}
-use Rattle.lists.specs.Refusals.{Check, refusal, unless}
+use Rattle.lists.specs.Bool.{_and_, every-fails}
+use Rattle.lists.specs.Refusals.{Check, check, refusal, refusal-fails}
 use Rattle.grid.specs.Mesh.{Mesh}
-use Rattle.boundary_assemblers.specs.declared.Run.{Run}
-use Rattle.boundary_assemblers.specs.declared.WorkRecord.{WorkRecord}
-use Rattle.boundary_assemblers.specs.declared.Looked.{Looked}
-use Rattle.boundary_assemblers.specs.declared.Added.{Added}
-use Rattle.boundary_assemblers.specs.Planning.{planNumbers}
-use Rattle.boundary_assemblers.specs.Runs.{Plan, EntryLists, begin, beginEntries, recordOf, rangesRight, stateChecks, lookRefusal, look, lookAnswer, lookedAnswer, lookedRun, advance, distantRefusal, touchingRefusal, entriesRefusal, addDistant, addTouching, addEntries, addAnswer, addedAnswer, addedRun}
-use Rattle.planning.specs.Arguments.{planningOf}
+use Rattle.work_records.specs.declared.WorkRecord.{WorkRecord}
+use Rattle.plans.specs.Planning.{planningOf, planNumbers}
+use Rattle.runs.specs.Runs.{Run, Plan, EntryLists, Reply, Answer, found, accepted, answered, reply, begin, beginEntries, rangesRight, placesRight, planRight, stateChecks, lookRefusal, advance, distantRefusal, touchingRefusal, entriesRefusal}
 use Rattle.bempp.specs.declared.CElement.{CElement}
 use Rattle.bempp.specs.declared.CIntegrand.{CIntegrand}
 use Rattle.bempp.specs.declared.CNumbers.{CNumbers}
@@ -40,54 +36,37 @@ pub begin-entries-stands : (n : CNumbers) → runOf (cRun n (beginEntries (numbe
 unfolding beginEntries
 begin-entries-stands n = refl
 
--- ---- look
+-- ---- look, by the refusal's number
 
-pub record LookStands (c : CRun) (x : CLooked) (a : Looked) : Type 0 where
-  pub answer : lookedBy x ≡ lookedAnswer a
-  pub run : runOf (x .run) ≡ lookedRun a
+pub record LookStands (c : CRun) (x : CLooked) (g : Reply) : Type 0 where
+  pub answer : lookedBy x ≡ g .answer
+  pub run : runOf (x .run) ≡ g .run
   pub same : x .run ≡ c
 
-pub look-stands : (c : CRun) (l : Plan) → LookStands c (cLooked c (look (runOf c) l)) (look (runOf c) l)
-unfolding look
-look-stands c l = go (lookRefusal (runOf c) l) (recordOf (runOf c) l)
-  where
-    go : (n : ℕ) (e : WorkRecord) → LookStands c (cLooked c (lookAnswer n (runOf c) e)) (lookAnswer n (runOf c) e)
-    go zero e = record { answer = refl; run = refl; same = refl }
-    go (suc n) e = record { answer = refl; run = refl; same = refl }
+pub look-stands : (c : CRun) (n : ℕ) (e : WorkRecord) → (let g = reply n (runOf c) (runOf c) (found e) in LookStands c (cLooked c g) g)
+look-stands c zero e = record { answer = refl; run = refl; same = refl }
+look-stands c (suc n) e = record { answer = refl; run = refl; same = refl }
 
--- ---- the adds and the entries call
+-- ---- the adds and the entries call, by the refusal's number
 
-pub record AddStands (c : CRun) (x : CAdded) (a : Added) : Type 0 where
-  pub answer : addedBy x ≡ addedAnswer a
-  pub run : runOf (x .run) ≡ addedRun a
+pub record AddStands (c : CRun) (x : CAdded) (g : Reply) : Type 0 where
+  pub answer : addedBy x ≡ g .answer
+  pub run : runOf (x .run) ≡ g .run
   pub same : (x .refusal ≡ 0 → ⊥) → x .run ≡ c
 
-add-stands : (c : CRun) (n : ℕ) → AddStands c (cAdded c (addAnswer n (runOf c))) (addAnswer n (runOf c))
+pub add-stands : (c : CRun) (n : ℕ) → (let g = reply n (runOf c) (advance (runOf c)) accepted in AddStands c (cAdded c g) g)
 unfolding advance
 add-stands c zero = record { answer = refl; run = refl; same = λ h. absurd (h refl) }
 add-stands c (suc n) = record { answer = refl; run = refl; same = λ _. refl }
-
-pub add-distant-stands : (c : CRun) (l : Plan) (M : List Float) (a : Distant) → AddStands c (cAdded c (addDistant (runOf c) l M a)) (addDistant (runOf c) l M a)
-unfolding addDistant
-add-distant-stands c l M a = add-stands c (distantRefusal (runOf c) l M a)
-
-pub add-touching-stands : (c : CRun) (l : Plan) (M : List Float) (a : Touching) → AddStands c (cAdded c (addTouching (runOf c) l M a)) (addTouching (runOf c) l M a)
-unfolding addTouching
-add-touching-stands c l M a = add-stands c (touchingRefusal (runOf c) l M a)
-
-pub add-entries-stands : (c : CRun) (l : Plan) (e : EntryLists) (a : Touching) → AddStands c (cAdded c (addEntries (runOf c) l e a)) (addEntries (runOf c) l e a)
-unfolding addEntries
-add-entries-stands c l e a = add-stands c (entriesRefusal (runOf c) l e a)
 
 -- ---- a run begun from the numbers of a refused planning, which have no cell: every call answers 21
 
 no-cell : (c : CRun) → c .numbers .cells ≡ 0 → rangesRight (runOf c) ≡ false
 unfolding rangesRight _and_
-no-cell c e = rw e
+no-cell c e = every-fails _ 0 (rw e)
 
 out-of-range : (r : Run) (l : Plan) (sized : Bool) (rest : List Check) → rangesRight r ≡ false → refusal (stateChecks r l sized ++ rest) ≡ 21
-unfolding refusal unless _and_
-out-of-range r l sized rest e = rw e
+out-of-range r l sized rest e = refusal-fails 21 _ _ (every-fails (rangesRight r ∷ placesRight r ∷ planRight r l ∷ sized ∷ []) 0 e)
 
 pub record AllRefused (c : CRun) : Type 0 where
   pub look : (l : Plan) → lookRefusal (runOf c) l ≡ 21

@@ -4,10 +4,8 @@ use crate::CRun;
 use crate::forms::c_added;
 use crate::forms::run_of;
 ghost use mathlib.Core.Path.{_≡_};
-ghost use Rattle.cell_pair_assemblers.specs.Facts.{touching, distant};
-ghost use Rattle.boundary_assemblers.specs.Runs.{addTouching, touchingMatrix, addDistant, distantMatrix, addEntries, entriesWritten};
-ghost use Rattle.boundary_assemblers.specs.RunFacts.{plan};
-ghost use Rattle.boundary_assemblers.specs.EntryFacts.{entryLists};
+ghost use Rattle.cell_pair_assemblers.specs.Lent.{touching, distant};
+ghost use Rattle.runs.specs.Runs.{planOf, entryLists, addTouching, touchingMatrix, addDistant, distantMatrix, addEntries, entriesWritten};
 ghost use Rattle.bempp.specs.Forms.{runOf, cAdded};
 
 // Adds the local matrix of a distant pair.
@@ -28,9 +26,9 @@ pub extern "C" fn seivalto_add_distant(
     trial_geometry: &[f64],
     matrix: &mut [f64],
 ) -> CAdded
-    ensures { λ r. ⌜ r ≡ cAdded run (addDistant (runOf run) (plan (now («test_dofs» .entry)) (now («trial_dofs» .entry)) (now (work .entry))) (now (matrix .entry))
+    ensures { λ r. ⌜ r ≡ cAdded run (addDistant (runOf run) (planOf (now («test_dofs» .entry)) (now («trial_dofs» .entry)) (now (work .entry))) (now (matrix .entry))
         (distant «test_points» «trial_points» (now («test_weights» .entry)) (now («trial_weights» .entry)) (now («test_table» .entry)) (now («trial_table» .entry)) (now (kernel .entry)) (now («test_geometry» .entry)) (now («trial_geometry» .entry)))) ⌝ }
-    ensures { λ _. ⌜ now (matrix .exit) ≡ distantMatrix (runOf run) (plan (now («test_dofs» .entry)) (now («trial_dofs» .entry)) (now (work .entry))) (now (matrix .entry))
+    ensures { λ _. ⌜ now (matrix .exit) ≡ distantMatrix (runOf run) (planOf (now («test_dofs» .entry)) (now («trial_dofs» .entry)) (now (work .entry))) (now (matrix .entry))
         (distant «test_points» «trial_points» (now («test_weights» .entry)) (now («trial_weights» .entry)) (now («test_table» .entry)) (now («trial_table» .entry)) (now (kernel .entry)) (now («test_geometry» .entry)) (now («trial_geometry» .entry))) ⌝ }
 {
     let inner = run_of(run);
@@ -68,9 +66,9 @@ pub extern "C" fn seivalto_add_touching(
     trial_geometry: &[f64],
     matrix: &mut [f64],
 ) -> CAdded
-    ensures { λ r. ⌜ r ≡ cAdded run (addTouching (runOf run) (plan (now («test_dofs» .entry)) (now («trial_dofs» .entry)) (now (work .entry))) (now (matrix .entry))
+    ensures { λ r. ⌜ r ≡ cAdded run (addTouching (runOf run) (planOf (now («test_dofs» .entry)) (now («trial_dofs» .entry)) (now (work .entry))) (now (matrix .entry))
         (touching points (now (weights .entry)) (now («test_table» .entry)) (now («trial_table» .entry)) (now (kernel .entry)) (now («test_geometry» .entry)) (now («trial_geometry» .entry)))) ⌝ }
-    ensures { λ _. ⌜ now (matrix .exit) ≡ touchingMatrix (runOf run) (plan (now («test_dofs» .entry)) (now («trial_dofs» .entry)) (now (work .entry))) (now (matrix .entry))
+    ensures { λ _. ⌜ now (matrix .exit) ≡ touchingMatrix (runOf run) (planOf (now («test_dofs» .entry)) (now («trial_dofs» .entry)) (now (work .entry))) (now (matrix .entry))
         (touching points (now (weights .entry)) (now («test_table» .entry)) (now («trial_table» .entry)) (now (kernel .entry)) (now («test_geometry» .entry)) (now («trial_geometry» .entry))) ⌝ }
 {
     let inner = run_of(run);
@@ -108,11 +106,11 @@ pub extern "C" fn seivalto_add_entries(
     columns: &mut [u32],
     values: &mut [f64],
 ) -> CAdded
-    ensures { λ r. ⌜ r ≡ cAdded run (addEntries (runOf run) (plan (now («test_dofs» .entry)) (now («trial_dofs» .entry)) (now (work .entry)))
+    ensures { λ r. ⌜ r ≡ cAdded run (addEntries (runOf run) (planOf (now («test_dofs» .entry)) (now («trial_dofs» .entry)) (now (work .entry)))
         (entryLists (now (rows .entry)) (now (columns .entry)) (now (values .entry)))
         (touching points (now (weights .entry)) (now («test_table» .entry)) (now («trial_table» .entry)) (now (kernel .entry)) (now («test_geometry» .entry)) (now («trial_geometry» .entry)))) ⌝ }
     ensures { λ _. ⌜ entryLists (now (rows .exit)) (now (columns .exit)) (now (values .exit))
-        ≡ entriesWritten (runOf run) (plan (now («test_dofs» .entry)) (now («trial_dofs» .entry)) (now (work .entry)))
+        ≡ entriesWritten (runOf run) (planOf (now («test_dofs» .entry)) (now («trial_dofs» .entry)) (now (work .entry)))
         (entryLists (now (rows .entry)) (now (columns .entry)) (now (values .entry)))
         (touching points (now (weights .entry)) (now («test_table» .entry)) (now («trial_table» .entry)) (now (kernel .entry)) (now («test_geometry» .entry)) (now («trial_geometry» .entry))) ⌝ }
 {

@@ -13,11 +13,12 @@ use boundary_assemblers::Looked;
 use boundary_assemblers::PlanNumbers;
 use boundary_assemblers::Planned;
 use boundary_assemblers::Run;
-use boundary_assemblers::WorkRecord;
 use function::Element;
 use integrands::Integrand;
 use integrands::Term;
+use work_records::WorkRecord;
 ghost use mathlib.Core.Path.{_≡_};
+ghost use Rattle.boundary_assemblers.specs.Forms as Inner;
 ghost use Rattle.bempp.specs.Forms.{elementOf, termOf, integrandOf, numbersOf, runOf, cNumbers, noNumbers, cPlanned, cRecord, noRecord, cLooked, cRun, moved, cAdded};
 
 // ---- what a C form stands for
@@ -55,7 +56,7 @@ pub(crate) fn integrand_of(f: CIntegrand) -> Integrand
 }
 
 pub(crate) fn numbers_of(n: CNumbers) -> PlanNumbers
-    ensures { λ r. ⌜ r ≡ numbersOf n ⌝ }
+    ensures { λ r. ⌜ Inner.numbersOf r ≡ numbersOf n ⌝ }
 {
     let test = element_of(n.test);
     let trial = element_of(n.trial);
@@ -76,7 +77,7 @@ pub(crate) fn numbers_of(n: CNumbers) -> PlanNumbers
 
 // Dense where `entries` is 0; for any other `entries` an entries run.
 pub(crate) fn run_of(c: CRun) -> Run
-    ensures { λ r. ⌜ r ≡ runOf c ⌝ }
+    ensures { λ r. ⌜ Inner.runOf r ≡ runOf c ⌝ }
 {
     let numbers = numbers_of(c.numbers);
     Run {
@@ -90,7 +91,7 @@ pub(crate) fn run_of(c: CRun) -> Run
 
 // Planning's numbers, with the elements and the integrand that the host gave.
 fn c_numbers(test: CElement, trial: CElement, f: CIntegrand, n: PlanNumbers) -> CNumbers
-    ensures { λ r. ⌜ r ≡ cNumbers test trial f n ⌝ }
+    ensures { λ r. ⌜ r ≡ cNumbers test trial f (Inner.numbersOf n) ⌝ }
 {
     CNumbers {
         cells: n.cells,
@@ -125,7 +126,7 @@ fn no_numbers(test: CElement, trial: CElement, f: CIntegrand) -> CNumbers
 }
 
 pub(crate) fn c_planned(test: CElement, trial: CElement, f: CIntegrand, answer: Planned) -> CPlanned
-    ensures { λ r. ⌜ r ≡ cPlanned test trial f answer ⌝ }
+    ensures { λ r. ⌜ r ≡ cPlanned test trial f (Inner.plannedOf answer) ⌝ }
 {
     match answer {
         Planned::Ready(n) => {
@@ -147,7 +148,7 @@ pub(crate) fn c_planned(test: CElement, trial: CElement, f: CIntegrand, answer: 
 
 // A run that begins, with the numbers that the host gave.
 pub(crate) fn c_run(n: CNumbers, run: Run) -> CRun
-    ensures { λ r. ⌜ r ≡ cRun n run ⌝ }
+    ensures { λ r. ⌜ r ≡ cRun n (Inner.runOf run) ⌝ }
 {
     CRun {
         numbers: n,
@@ -173,8 +174,8 @@ fn c_record(e: WorkRecord) -> CRecord
 {
     CRecord {
         pattern: e.pattern,
-        test_cell: e.test_cell,
-        trial_cell: e.trial_cell,
+        test_cell: e.test,
+        trial_cell: e.trial,
     }
 }
 
@@ -190,22 +191,24 @@ fn no_record() -> CRecord
 }
 
 pub(crate) fn c_looked(c: CRun, answer: Looked) -> CLooked
-    ensures { λ r. ⌜ r ≡ cLooked c answer ⌝ }
+    ensures { λ r. ⌜ r ≡ cLooked c (Inner.lookedOf answer) ⌝ }
 {
     match answer {
-        Looked::Found(_, e) => {
+        Looked::Found(run, e) => {
+            let next = moved(c, run.position);
             let record = c_record(e);
             CLooked {
                 refusal: 0,
-                run: c,
+                run: next,
                 record: record,
             }
         }
-        Looked::Refused(_, v) => {
+        Looked::Refused(run, v) => {
+            let next = moved(c, run.position);
             let record = no_record();
             CLooked {
                 refusal: v,
-                run: c,
+                run: next,
                 record: record,
             }
         }
@@ -213,7 +216,7 @@ pub(crate) fn c_looked(c: CRun, answer: Looked) -> CLooked
 }
 
 pub(crate) fn c_added(c: CRun, answer: Added) -> CAdded
-    ensures { λ r. ⌜ r ≡ cAdded c answer ⌝ }
+    ensures { λ r. ⌜ r ≡ cAdded c (Inner.addedOf answer) ⌝ }
 {
     match answer {
         Added::Accepted(run) => {
@@ -223,6 +226,12 @@ pub(crate) fn c_added(c: CRun, answer: Added) -> CAdded
                 run: next,
             }
         }
-        Added::Refused(_, v) => CAdded { refusal: v, run: c },
+        Added::Refused(run, v) => {
+            let next = moved(c, run.position);
+            CAdded {
+                refusal: v,
+                run: next,
+            }
+        }
     }
 }

@@ -11,10 +11,8 @@ use forms::numbers_of;
 use forms::run_of;
 use planning::plan;
 ghost use mathlib.Core.Path.{_≡_};
-ghost use Rattle.boundary_assemblers.specs.Planning.{plan, planLists};
-ghost use Rattle.boundary_assemblers.specs.Runs.{begin, beginEntries, look};
-ghost use Rattle.boundary_assemblers.specs.RunFacts as RunFacts;
-ghost use Rattle.planning.specs.Arguments.{meshOf, planningOf, listsOf};
+ghost use Rattle.plans.specs.Planning.{meshOf, planningOf, listsOf, plan, planLists};
+ghost use Rattle.runs.specs.Runs.{planOf, begin, beginEntries, look};
 ghost use Rattle.bempp.specs.Forms.{elementOf, integrandOf, numbersOf, runOf, cPlanned, cRun, cLooked};
 
 // DOFs per vertex (a), per edge (b) and per cell (c).
@@ -168,7 +166,7 @@ pub extern "C" fn seivalto_look(
     trial_dofs: &[u32],
     work: &[u32],
 ) -> CLooked
-    ensures { λ r. ⌜ r ≡ cLooked run (look (runOf run) (RunFacts.plan (now («test_dofs» .entry)) (now («trial_dofs» .entry)) (now (work .entry)))) ⌝ }
+    ensures { λ r. ⌜ r ≡ cLooked run (look (runOf run) (planOf (now («test_dofs» .entry)) (now («trial_dofs» .entry)) (now (work .entry)))) ⌝ }
 {
     let inner = run_of(run);
     c_looked(run, inner.look(test_dofs, trial_dofs, work))

@@ -1,31 +1,26 @@
 -- What an add needs where nothing turns it down, and what it comes to. Assumes nothing.
-use Prim.Native.Nat.{ℕ, zero, suc, _+_, _*_, _≤_, _<_}
+use Prim.Native.Nat.{ℕ, zero, suc, _+_, _*_, _<_}
 use native.Mathlib.Omega.{arith}
 use mathlib.Core.Path.{_≡_, refl, sym, ap, _∙_}
 use mathlib.Core.Bool.{Bool, true, false, not}
 use mathlib.Core.List.{List, _∷_}
-use lib.ListN.{length, drop, length-take, length-drop}
+use lib.ListN.{length}
 use lib.Ieee.{Float}
 use borrow.Author.Tests.{eqb-true, not-true, not-false}
 use Rattle.lists.specs.Bool.{_and_}
-use Rattle.lists.specs.Refusals.{Check, check, refusal, refusal-first, refusal-fails, refusal-passes, refusal-zero, refusal-none}
+use Rattle.lists.specs.Refusals.{Check, check, refusal, refusal-first, refusal-rest, refusal-fails, refusal-passes, refusal-zero, answers, accepted as pass, _then_}
 use Rattle.grid.specs.Facts.{below-at}
 use Rattle.integrands.specs.Floats.{_!_}
 use Rattle.local_matrix.specs.Adding.{addLocal}
 use Rattle.local_matrix.specs.AddingFacts.{addLocal-ext}
 use Rattle.local_matrix.specs.Entries.{entryAt, AddFits}
-use Rattle.boundary_assemblers.specs.declared.Run.{Run}
-use Rattle.boundary_assemblers.specs.declared.WorkRecord.{WorkRecord}
-use Rattle.boundary_assemblers.specs.declared.Added.the-variants.{Accepted, Refused as AddRefused}
-use Rattle.boundary_assemblers.specs.Planning.{unlessRefused}
-use Rattle.boundary_assemblers.specs.Runs.{Plan, testDim, trialDim, recordOf, cellDofs, testDofsOf, trialDofsOf, matrixRight, stateChecks, callChecks, advance, addAnswer}
-use Rattle.boundary_assemblers.specs.RunFacts.{Standing, cell-fits}
+use Rattle.work_records.specs.declared.WorkRecord.{WorkRecord}
+use Rattle.plans.specs.Planning.{unlessRefused}
+use Rattle.runs.specs.Runs.{Run, Plan, Reply, accepted, refused, reply, testDim, trialDim, recordOf, testDofsOf, trialDofsOf, matrixRight, stateChecks, callChecks, advance}
+use Rattle.runs.specs.CellDofs.{cell-fits, length-cell-is}
+use Rattle.boundary_assemblers.specs.RunFacts.{Standing, reply-refused}
 
 -- ---- the DOFs of the two cells
-
-pub length-cell-is : (dofs : List ℕ) (d i : ℕ) → d * i + d ≤ length dofs → length (cellDofs dofs d i) ≡ d
-unfolding cellDofs
-length-cell-is dofs d i h = length-take d (drop (d * i) dofs) ∙ omega (arith, length-drop (d * i) dofs)
 
 module _ {r : Run} {l : Plan} {sized : Bool} (h : Standing r l sized) where
   pub test-long : length (testDofsOf r l) ≡ testDim r
@@ -53,11 +48,7 @@ module _ (r : Run) (l : Plan) (sized kind : Bool) (numbers : List Check) where
   state-fails v e h = refusal-first (stateChecks r l sized) (check 23 kind ∷ numbers) v e h
 
   state-passes : refusal (stateChecks r l sized) ≡ 0 → refusal (callChecks r l sized kind numbers) ≡ refusal (check 23 kind ∷ numbers)
-  state-passes e =
-      let c₁ = refusal-zero 20 _ _ e in
-      let c₂ = refusal-zero 19 _ _ (c₁ .1) in
-      let c₃ = refusal-zero 21 _ _ (c₂ .1) in
-      refusal-passes 21 _ _ (c₁ .0) ∙ refusal-passes 20 _ _ (c₂ .0) ∙ refusal-passes 22 _ _ (c₃ .0)
+  state-passes e = refusal-rest (stateChecks r l sized) (check 23 kind ∷ numbers) e refl
 
   kind-fails : refusal (stateChecks r l sized) ≡ 0 → kind ≡ false → 23 ≡ refusal (callChecks r l sized kind numbers)
   kind-fails e h = sym (state-passes e ∙ refusal-fails 23 _ _ h)
@@ -77,11 +68,7 @@ module _ (r : Run) (l : Plan) (sized kind : Bool) (numbers : List Check) where
       let c₂ = refusal-zero 19 _ _ (c₁ .1) in
       let c₃ = refusal-zero 21 _ _ (c₂ .1) in
       let c₄ = refusal-zero 22 _ _ (c₃ .1) in
-      record {
-        state = refusal-passes 21 _ _ (c₁ .0) ∙ refusal-passes 20 _ _ (c₂ .0) ∙ refusal-passes 22 _ _ (c₃ .0) ∙ refusal-none;
-        right = c₄ .0;
-        rest = c₄ .1;
-      }
+      record { state = sym (answers (c₁ .0 then c₂ .0 then c₃ .0 then pass)); right = c₄ .0; rest = c₄ .1 }
 
 -- the same by the record e that the code read, and the test P of its pattern
 module _ (r : Run) (l : Plan) (sized run : Bool) (numbers : List Check) (P : ℕ → Bool) (e : WorkRecord) (q : e ≡ recordOf r l) where
@@ -95,14 +82,16 @@ module _ (r : Run) (l : Plan) (sized run : Bool) (numbers : List Check) (P : ℕ
 
 -- ---- the two ways an add ends
 
-pub add-refused : {A : Type 0} (r : Run) (M new : A) (v n : ℕ) → v ≡ n → (v ≡ 0 → ⊥) → (AddRefused r v ≡ addAnswer n r) × (M ≡ unlessRefused n new M)
-add-refused {A} r M new v n e h = rw (← e) (go v h)
+pub add-refused : {A : Type 0} (r : Run) (M new : A) (v n : ℕ) → v ≡ n → (v ≡ 0 → ⊥)
+    → (_≡_ {A = Reply} (record { run = r; answer = refused v }) (reply n r (advance r) accepted)) × (M ≡ unlessRefused n new M)
+add-refused {A} r M new v n e h = (reply-refused v n r (advance r) accepted e h, rw (← e) (go v h))
   where
-    go : (v : ℕ) → (v ≡ 0 → ⊥) → (AddRefused r v ≡ addAnswer v r) × (M ≡ unlessRefused v new M)
+    go : (v : ℕ) → (v ≡ 0 → ⊥) → M ≡ unlessRefused v new M
     go zero h = absurd (h refl)
-    go (suc v) h = (refl, refl)
+    go (suc v) h = refl
 
-pub add-accepted : {A : Type 0} (r run : Run) (M M′ new : A) (n : ℕ) → n ≡ 0 → run ≡ advance r → M′ ≡ new → (Accepted run ≡ addAnswer n r) × (M′ ≡ unlessRefused n new M)
+pub add-accepted : {A : Type 0} (r run : Run) (M M′ new : A) (n : ℕ) → n ≡ 0 → run ≡ advance r → M′ ≡ new
+    → (_≡_ {A = Reply} (record { run = run; answer = accepted }) (reply n r (advance r) accepted)) × (M′ ≡ unlessRefused n new M)
 add-accepted r run M M′ new n e a w = rw (e, a, w) (refl, refl)
 
 -- the sum of the entries that the local matrix holds is that of the local entries

@@ -4,38 +4,25 @@ use native.Mathlib.Nat.{mul-le-mul-right, mul-le-mul, suc-mul, add-mul}
 use native.Mathlib.Omega.{arith}
 use mathlib.Core.Path.{_≡_, refl, ap, _∙_}
 use mathlib.Core.Bool.{Bool, true, false}
-use mathlib.Core.List.{List, _∷_}
+use mathlib.Core.List.{List, [], _∷_}
 use lib.ListN.{length}
 use lib.Seq.{sets}
 use lib.Ieee.{Float}
 use borrow.Author.Tests.{eqb-true}
-use Rattle.lists.specs.Bool.{_and_, and-left, and-right}
+use Rattle.lists.specs.Bool.{_and_, every, every-at}
 use Rattle.lists.specs.Refusals.{Check, check, refusal, unless}
+use Rattle.function.specs.Elements.{mostDim}
 use Rattle.integrands.specs.Floats.{_!_}
 use Rattle.local_matrix.specs.Adding.{localRows, localColumns, localValues}
 use Rattle.local_matrix.specs.AddingFacts.{localValues-ext}
 use Rattle.local_matrix.specs.Entries.{entryAt}
-use Rattle.boundary_assemblers.specs.declared.Run.{Run}
-use Rattle.boundary_assemblers.specs.Runs.{Plan, EntryLists, pairs, testDim, trialDim, testDofsOf, trialDofsOf, rangesRight, placesRight, planRight, pairLeft, recordRight, entriesRight, callChecks, entryPlace}
-use Rattle.boundary_assemblers.specs.RunFacts.{Standing}
-
--- the three lists that the call is lent
-abbrev pub entryLists : List ℕ → List ℕ → List Float → EntryLists
-entryLists rows columns values = record { rows = rows; columns = columns; values = values }
-
--- they with the entries of record p written
-abbrev pub written : Run → Plan → (ℕ → ℕ → Float) → EntryLists → EntryLists
-written r l entry e =
-    record {
-      rows = sets (e .rows) (entryPlace r) (localRows (testDofsOf r l) (trialDofsOf r l));
-      columns = sets (e .columns) (entryPlace r) (localColumns (testDofsOf r l) (trialDofsOf r l));
-      values = sets (e .values) (entryPlace r) (localValues entry (testDim r) (trialDim r));
-    }
+use Rattle.runs.specs.Runs.{Run, Plan, EntryLists, entryLists, written, pairs, testDim, trialDim, testDofsOf, trialDofsOf, rangesRight, placesRight, planRight, pairLeft, recordRight, entriesRight, callChecks, entryPlace}
+use Rattle.boundary_assemblers.specs.RunFacts.{mostPairs, Standing}
 
 -- 21 reads ranges and places first, so that it does no harm to read them again with the entry lists
 pub sized-same : (r : Run) (l : Plan) (e kind : Bool) (numbers : List Check)
-    → refusal (callChecks r l (rangesRight r and placesRight r and e) kind numbers) ≡ refusal (callChecks r l e kind numbers)
-unfolding refusal unless _and_
+    → refusal (callChecks r l (every (rangesRight r ∷ placesRight r ∷ e ∷ [])) kind numbers) ≡ refusal (callChecks r l e kind numbers)
+unfolding refusal unless every _and_
 sized-same r l e kind numbers = ap (λ (b : Bool). unless b 21 (refusal (check 20 (pairLeft r) ∷ check 22 (recordRight r l) ∷ check 23 kind ∷ numbers))) (go (rangesRight r) (placesRight r) (planRight r l))
   where
     go : (a b c : Bool) → (a and b and c and (a and b and e)) ≡ (a and b and c and e)
@@ -57,37 +44,30 @@ pub record Fit (r : Run) (e : EntryLists) : Type 0 where
   pub columns : entryPlace r + testDim r * trialDim r ≤ length (e .columns)
   pub values : entryPlace r + testDim r * trialDim r ≤ length (e .values)
 
-pub entries-fit : {r : Run} {l : Plan} (e : EntryLists) → Standing r l (rangesRight r and placesRight r and entriesRight r e) → r .numbers .distant ≤ r .position → Fit r e
+pub entries-fit : {r : Run} {l : Plan} (e : EntryLists) → Standing r l (every (rangesRight r ∷ placesRight r ∷ entriesRight r e ∷ [])) → r .numbers .distant ≤ r .position → Fit r e
 unfolding entriesRight
 entries-fit {r} e h from =
-    let all = and-right _ _ (h .size) in
+    let all = every-at _ (h .size) 2 in
     let one : (size : ℕ) → size ≡ (pairs (r .numbers) - r .numbers .distant) * testDim r * trialDim r → entryPlace r + testDim r * trialDim r ≤ size =
     λ size q. fits (r .position) (r .numbers .distant) (pairs (r .numbers)) (testDim r) (trialDim r) size from (h .below) q in
     record {
-      rows = one (length (e .rows)) (eqb-true _ _ (and-left _ _ (and-left _ _ all)));
-      columns = one (length (e .columns)) (eqb-true _ _ (and-right _ _ (and-left _ _ all)));
-      values = one (length (e .values)) (eqb-true _ _ (and-right _ _ all));
+      rows = one (length (e .rows)) (eqb-true _ _ (every-at _ all 0));
+      columns = one (length (e .columns)) (eqb-true _ _ (every-at _ all 1));
+      values = one (length (e .values)) (eqb-true _ _ (every-at _ all 2));
     }
 
--- ---- three tests in a row, and products that fit
-
-pub first-fails : (a b c : Bool) → a ≡ false → false ≡ (a and b and c)
-unfolding _and_
-first-fails a b c e = rw e
-
-pub second-fails : (a b c : Bool) → a ≡ true → b ≡ false → false ≡ (a and b and c)
-unfolding _and_
-second-fails a b c e f = rw (e, f)
-
-pub third-answers : (a b c x : Bool) → a ≡ true → b ≡ true → x ≡ c → x ≡ (a and b and c)
-unfolding _and_
+-- where ranges and places are right, the lengths of the lists decide
+pub third-answers : (a b c x : Bool) → a ≡ true → b ≡ true → x ≡ c → x ≡ every (a ∷ b ∷ c ∷ [])
+unfolding every _and_
 third-answers a b c x e f g = rw (e, f) g
 
-pub record Few (x m n : ℕ) : Type 0 where
-  pub one : x * m ≤ 41943040
-  pub two : x * m * n ≤ 419430400
+-- ---- products that fit
 
-pub few : (x m n : ℕ) → x ≤ 4194304 → m ≤ 10 → n ≤ 10 → Few x m n
+pub record Few (x m n : ℕ) : Type 0 where
+  pub one : x * m ≤ mostPairs * mostDim
+  pub two : x * m * n ≤ mostPairs * mostDim * mostDim
+
+pub few : (x m n : ℕ) → x ≤ mostPairs → m ≤ mostDim → n ≤ mostDim → Few x m n
 few x m n h p q = record { one = mul-le-mul h p; two = mul-le-mul (mul-le-mul h p) q }
 
 -- ---- what is written

@@ -2,7 +2,6 @@
 use crate::Added;
 use crate::Run;
 use crate::calls::cell_dofs;
-use crate::calls::record_at;
 use cell_pair_assemblers::LocalMatrix;
 use cell_pair_assemblers::distant_matrix;
 use cell_pair_assemblers::distant_refusal;
@@ -10,17 +9,21 @@ use cell_pair_assemblers::touching_matrix;
 use cell_pair_assemblers::touching_refusal;
 use grid::wide;
 use local_matrix::add_local;
+use work_records::DISTANT;
+use work_records::NO_PATTERN;
+use work_records::record_at;
 ghost use mathlib.Core.Path.{_≡_};
 ghost use mathlib.Core.Bool.{not};
 ghost use Prim.Native.Nat.{_*_, _<_};
 ghost use Rattle.lists.specs.Bool.{_and_};
 ghost use Rattle.lists.specs.Refusals.{refusal};
 ghost use Rattle.cell_pair_assemblers.specs.Lent.{touchingChecks, distantChecks};
-ghost use Rattle.cell_pair_assemblers.specs.Facts.{touching, distant};
+ghost use Rattle.cell_pair_assemblers.specs.Lent.{touching, distant};
 ghost use Rattle.local_matrix.specs.Adding.{addLocal};
 ghost use Rattle.local_matrix.specs.Entries.{entryAt};
-ghost use Rattle.boundary_assemblers.specs.Runs.{testDim, trialDim, recordOf, testDofsOf, trialDofsOf, isTouching, isDistant, callChecks, matrixRight, advance, addTouching, touchingMatrix, addDistant, distantMatrix};
-ghost use Rattle.boundary_assemblers.specs.RunFacts.{plan, Standing};
+ghost use Rattle.runs.specs.Runs.{testDim, trialDim, recordOf, testDofsOf, trialDofsOf, isTouching, isDistant, callChecks, matrixRight, advance, addTouching, touchingMatrix, addDistant, distantMatrix, planOf};
+ghost use Rattle.boundary_assemblers.specs.Forms.{runOf, addedOf};
+ghost use Rattle.boundary_assemblers.specs.RunFacts.{mostPairs, Standing};
 
 // A product of two u32, which fits.
 fn product(a: u32, b: u32) -> usize
@@ -32,7 +35,7 @@ fn product(a: u32, b: u32) -> usize
 impl Run {
     // 21: the matrix has its length.
     fn matrix_right(self, matrix: &[f64]) -> bool
-        ensures { λ r. ⌜ r ≡ matrixRight self (now (matrix .entry)) ⌝ }
+        ensures { λ r. ⌜ r ≡ matrixRight (runOf self) (now (matrix .entry)) ⌝ }
     {
         let n = self.numbers;
         matrix.len() == product(n.rows, n.columns)
@@ -40,8 +43,8 @@ impl Run {
 
     // The run at the next record.
     pub(crate) fn advanced(self) -> Run
-        requires { ⌜ self .position < 4194304 ⌝ }
-        ensures { λ r. ⌜ r ≡ advance self ⌝ }
+        requires { ⌜ self .position < mostPairs ⌝ }
+        ensures { λ r. ⌜ runOf r ≡ advance (runOf self) ⌝ }
     {
         let n = self.numbers;
         Run {
@@ -60,17 +63,17 @@ impl Run {
         local: LocalMatrix,
         matrix: &mut [f64],
     )
-        requires { ⌜ Standing self (plan (now «test_dofs») (now «trial_dofs») (now work)) (matrixRight self (now matrix)) ⌝ }
-        ensures { λ _. ⌜ now (matrix .exit) ≡ addLocal (entryAt (local .entries) (testDim self)) (self .numbers .rows)
-            (testDofsOf self (plan (now («test_dofs» .entry)) (now («trial_dofs» .entry)) (now (work .entry))))
-            (trialDofsOf self (plan (now («test_dofs» .entry)) (now («trial_dofs» .entry)) (now (work .entry)))) (now (matrix .entry)) ⌝ }
+        requires { ⌜ Standing (runOf self) (planOf (now «test_dofs») (now «trial_dofs») (now work)) (matrixRight (runOf self) (now matrix)) ⌝ }
+        ensures { λ _. ⌜ now (matrix .exit) ≡ addLocal (entryAt (local .entries) (testDim (runOf self))) (self .numbers .rows)
+            (testDofsOf (runOf self) (planOf (now («test_dofs» .entry)) (now («trial_dofs» .entry)) (now (work .entry))))
+            (trialDofsOf (runOf self) (planOf (now («test_dofs» .entry)) (now («trial_dofs» .entry)) (now (work .entry)))) (now (matrix .entry)) ⌝ }
     {
         let n = self.numbers;
         let test = n.test;
         let trial = n.trial;
         let e = record_at(work, wide(self.position));
-        let rows = cell_dofs(test_dofs, test.dim(), wide(e.test_cell));
-        let columns = cell_dofs(trial_dofs, trial.dim(), wide(e.trial_cell));
+        let rows = cell_dofs(test_dofs, test.dim(), wide(e.test));
+        let columns = cell_dofs(trial_dofs, trial.dim(), wide(e.trial));
         let entries = local.entries;
         add_local(
             matrix,
@@ -98,9 +101,9 @@ impl Run {
         test_geometry: &[f64],
         trial_geometry: &[f64],
     ) -> u32
-        ensures { λ r. ⌜ r ≡ refusal (callChecks self (plan (now («test_dofs» .entry)) (now («trial_dofs» .entry)) (now (work .entry))) sized
-            (isTouching (recordOf self (plan (now («test_dofs» .entry)) (now («trial_dofs» .entry)) (now (work .entry))) .pattern) and kind)
-            (touchingChecks (self .numbers .integrand) (testDim self) (trialDim self)
+        ensures { λ r. ⌜ r ≡ refusal (callChecks (runOf self) (planOf (now («test_dofs» .entry)) (now («trial_dofs» .entry)) (now (work .entry))) sized
+            (isTouching (recordOf (runOf self) (planOf (now («test_dofs» .entry)) (now («trial_dofs» .entry)) (now (work .entry))) .pattern) and kind)
+            (touchingChecks (self .numbers .integrand) (testDim (runOf self)) (trialDim (runOf self))
             (touching points (now (weights .entry)) (now («test_table» .entry)) (now («trial_table» .entry)) (now (kernel .entry)) (now («test_geometry» .entry)) (now («trial_geometry» .entry))))) ⌝ }
     {
         let v = self.state_refusal(test_dofs, trial_dofs, work, sized);
@@ -108,7 +111,7 @@ impl Run {
             return v;
         }
         let e = record_at(work, wide(self.position));
-        if !((e.pattern <= 27) & kind) {
+        if !((e.pattern < NO_PATTERN) & kind) {
             return 23;
         }
         let n = self.numbers;
@@ -144,9 +147,9 @@ impl Run {
         trial_geometry: &[f64],
         matrix: &mut [f64],
     ) -> Added
-        ensures { λ r. ⌜ r ≡ addTouching self (plan (now («test_dofs» .entry)) (now («trial_dofs» .entry)) (now (work .entry))) (now (matrix .entry))
+        ensures { λ r. ⌜ addedOf r ≡ addTouching (runOf self) (planOf (now («test_dofs» .entry)) (now («trial_dofs» .entry)) (now (work .entry))) (now (matrix .entry))
             (touching points (now (weights .entry)) (now («test_table» .entry)) (now («trial_table» .entry)) (now (kernel .entry)) (now («test_geometry» .entry)) (now («trial_geometry» .entry))) ⌝ }
-        ensures { λ _. ⌜ now (matrix .exit) ≡ touchingMatrix self (plan (now («test_dofs» .entry)) (now («trial_dofs» .entry)) (now (work .entry))) (now (matrix .entry))
+        ensures { λ _. ⌜ now (matrix .exit) ≡ touchingMatrix (runOf self) (planOf (now («test_dofs» .entry)) (now («trial_dofs» .entry)) (now (work .entry))) (now (matrix .entry))
             (touching points (now (weights .entry)) (now («test_table» .entry)) (now («trial_table» .entry)) (now (kernel .entry)) (now («test_geometry» .entry)) (now («trial_geometry» .entry))) ⌝ }
     {
         let sized = self.matrix_right(matrix);
@@ -204,9 +207,9 @@ impl Run {
         test_geometry: &[f64],
         trial_geometry: &[f64],
     ) -> u32
-        ensures { λ r. ⌜ r ≡ refusal (callChecks self (plan (now («test_dofs» .entry)) (now («trial_dofs» .entry)) (now (work .entry))) sized
-            (isDistant (recordOf self (plan (now («test_dofs» .entry)) (now («trial_dofs» .entry)) (now (work .entry))) .pattern) and not (self .entries))
-            (distantChecks (self .numbers .integrand) (testDim self) (trialDim self)
+        ensures { λ r. ⌜ r ≡ refusal (callChecks (runOf self) (planOf (now («test_dofs» .entry)) (now («trial_dofs» .entry)) (now (work .entry))) sized
+            (isDistant (recordOf (runOf self) (planOf (now («test_dofs» .entry)) (now («trial_dofs» .entry)) (now (work .entry))) .pattern) and not (self .entries))
+            (distantChecks (self .numbers .integrand) (testDim (runOf self)) (trialDim (runOf self))
             (distant «test_points» «trial_points» (now («test_weights» .entry)) (now («trial_weights» .entry)) (now («test_table» .entry)) (now («trial_table» .entry)) (now (kernel .entry)) (now («test_geometry» .entry)) (now («trial_geometry» .entry))))) ⌝ }
     {
         let v = self.state_refusal(test_dofs, trial_dofs, work, sized);
@@ -214,7 +217,7 @@ impl Run {
             return v;
         }
         let e = record_at(work, wide(self.position));
-        if !((e.pattern == 255) & !self.entries) {
+        if !((e.pattern == DISTANT) & !self.entries) {
             return 23;
         }
         let n = self.numbers;
@@ -254,9 +257,9 @@ impl Run {
         trial_geometry: &[f64],
         matrix: &mut [f64],
     ) -> Added
-        ensures { λ r. ⌜ r ≡ addDistant self (plan (now («test_dofs» .entry)) (now («trial_dofs» .entry)) (now (work .entry))) (now (matrix .entry))
+        ensures { λ r. ⌜ addedOf r ≡ addDistant (runOf self) (planOf (now («test_dofs» .entry)) (now («trial_dofs» .entry)) (now (work .entry))) (now (matrix .entry))
             (distant «test_points» «trial_points» (now («test_weights» .entry)) (now («trial_weights» .entry)) (now («test_table» .entry)) (now («trial_table» .entry)) (now (kernel .entry)) (now («test_geometry» .entry)) (now («trial_geometry» .entry))) ⌝ }
-        ensures { λ _. ⌜ now (matrix .exit) ≡ distantMatrix self (plan (now («test_dofs» .entry)) (now («trial_dofs» .entry)) (now (work .entry))) (now (matrix .entry))
+        ensures { λ _. ⌜ now (matrix .exit) ≡ distantMatrix (runOf self) (planOf (now («test_dofs» .entry)) (now («trial_dofs» .entry)) (now (work .entry))) (now (matrix .entry))
             (distant «test_points» «trial_points» (now («test_weights» .entry)) (now («trial_weights» .entry)) (now («test_table» .entry)) (now («trial_table» .entry)) (now (kernel .entry)) (now («test_geometry» .entry)) (now («trial_geometry» .entry))) ⌝ }
     {
         let sized = self.matrix_right(matrix);

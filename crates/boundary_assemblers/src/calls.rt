@@ -2,23 +2,31 @@
 use crate::Looked;
 use crate::PlanNumbers;
 use crate::Run;
-use crate::WorkRecord;
 use function::dims_right;
+use grid::MOST_CELLS;
+use grid::MOST_EDGES;
+use grid::MOST_VERTICES;
 use grid::all_below;
 use grid::wide;
 use integrands::integrand_right;
+use work_records::DISTANT;
+use work_records::NO_PATTERN;
+use work_records::WIDTH;
+use work_records::WorkRecord;
+use work_records::record_at;
 ghost use mathlib.Core.Path.{_≡_};
 ghost use mathlib.Core.Bool.{true};
 ghost use Prim.Native.Nat.{_+_, _*_, _≤_, _<_};
 ghost use lib.ListN.{length};
-ghost use Rattle.boundary_assemblers.specs.Runs.{begin, beginEntries, pairs, recordAt, cellDofs, recordKnown, rangesRight, placesRight, planRight, recordRight, stateChecks, look};
+ghost use Rattle.runs.specs.Runs.{begin, beginEntries, pairs, cellDofs, recordKnown, rangesRight, placesRight, planRight, recordRight, stateChecks, look, planOf};
+ghost use Rattle.boundary_assemblers.specs.Forms.{numbersOf, runOf, lookedOf};
 ghost use Rattle.lists.specs.Refusals.{refusal};
 ghost use Rattle.boundary_assemblers.specs.RunFacts.{Ranges, Lengths};
 
 impl PlanNumbers {
     // A dense run starts at 0.
     pub fn begin(self) -> Run
-        ensures { λ r. ⌜ r ≡ begin self ⌝ }
+        ensures { λ r. ⌜ runOf r ≡ begin (numbersOf self) ⌝ }
     {
         Run {
             numbers: self,
@@ -29,26 +37,13 @@ impl PlanNumbers {
 
     // An entries run starts at N.
     pub fn begin_entries(self) -> Run
-        ensures { λ r. ⌜ r ≡ beginEntries self ⌝ }
+        ensures { λ r. ⌜ runOf r ≡ beginEntries (numbersOf self) ⌝ }
     {
         Run {
             numbers: self,
             entries: true,
             position: self.distant,
         }
-    }
-}
-
-// Record p of a work list.
-pub(crate) fn record_at(work: &[u32], p: usize) -> WorkRecord
-    requires { ⌜ 3 * p + 3 ≤ length (now work) ⌝ }
-    ensures { λ r. ⌜ r ≡ recordAt (now (work .entry)) p ⌝ }
-{
-    let at = 3 * p;
-    WorkRecord {
-        pattern: work[at],
-        test_cell: work[at + 1],
-        trial_cell: work[at + 2],
     }
 }
 
@@ -65,23 +60,23 @@ pub(crate) fn cell_dofs(dofs: &[u32], dim: usize, cell: usize) -> &[u32]
 impl Run {
     // 21: the run's numbers are in their ranges.
     pub(crate) fn ranges_right(self) -> bool
-        ensures { λ r. ⌜ r ≡ rangesRight self ⌝ }
+        ensures { λ r. ⌜ r ≡ rangesRight (runOf self) ⌝ }
     {
         let n = self.numbers;
         let test = n.test;
         let trial = n.trial;
         let f = n.integrand;
-        ((1 <= n.cells) & (n.cells <= 2048))
-            & ((3 <= n.vertices) & (n.vertices <= 4096))
-            & ((3 <= n.edges) & (n.edges <= 6144))
+        ((1 <= n.cells) & (n.cells <= MOST_CELLS as u32))
+            & ((3 <= n.vertices) & (n.vertices <= MOST_VERTICES as u32))
+            & ((3 <= n.edges) & (n.edges <= MOST_EDGES as u32))
             & dims_right(test, trial)
             & integrand_right(f)
     }
 
     // 21: p, N, rows and columns are no more than the ranges give.
     pub(crate) fn places_right(self) -> bool
-        requires { ⌜ rangesRight self ≡ true ⌝ }
-        ensures { λ r. ⌜ r ≡ placesRight self ⌝ }
+        requires { ⌜ rangesRight (runOf self) ≡ true ⌝ }
+        ensures { λ r. ⌜ r ≡ placesRight (runOf self) ⌝ }
     {
         let n = self.numbers;
         let test = n.test;
@@ -97,8 +92,8 @@ impl Run {
 
     // 21: the plan has its length.
     fn plan_right(self, test_dofs: &[u32], trial_dofs: &[u32], work: &[u32]) -> bool
-        requires { ⌜ rangesRight self ≡ true ⌝ }
-        ensures { λ r. ⌜ r ≡ planRight self (record { testDofs = now («test_dofs» .entry); trialDofs = now («trial_dofs» .entry); work = now (work .entry) }) ⌝ }
+        requires { ⌜ rangesRight (runOf self) ≡ true ⌝ }
+        ensures { λ r. ⌜ r ≡ planRight (runOf self) (planOf (now («test_dofs» .entry)) (now («trial_dofs» .entry)) (now (work .entry))) ⌝ }
     {
         let n = self.numbers;
         let test = n.test;
@@ -106,24 +101,24 @@ impl Run {
         let cells = wide(n.cells);
         (test_dofs.len() == cells * test.dim())
             & (trial_dofs.len() == cells * trial.dim())
-            & (work.len() == 3 * (cells * cells))
+            & (work.len() == WIDTH * (cells * cells))
     }
 
     // 22: the pattern and the two cells of a record.
     fn record_known(self, e: WorkRecord) -> bool
-        ensures { λ r. ⌜ r ≡ recordKnown self e ⌝ }
+        ensures { λ r. ⌜ r ≡ recordKnown (runOf self) e ⌝ }
     {
         let n = self.numbers;
-        ((e.pattern <= 27) | (e.pattern == 255))
-            & (e.test_cell < n.cells)
-            & (e.trial_cell < n.cells)
+        ((e.pattern < NO_PATTERN) | (e.pattern == DISTANT))
+            & (e.test < n.cells)
+            & (e.trial < n.cells)
     }
 
     // 22: record p, and the DOFs of its two cells.
     fn record_right(self, test_dofs: &[u32], trial_dofs: &[u32], work: &[u32]) -> bool
-        requires { ⌜ (Ranges self) × (Lengths self (record { testDofs = now «test_dofs»; trialDofs = now «trial_dofs»; work = now work })) ⌝ }
-        requires { ⌜ self .position < pairs (self .numbers) ⌝ }
-        ensures { λ r. ⌜ r ≡ recordRight self (record { testDofs = now («test_dofs» .entry); trialDofs = now («trial_dofs» .entry); work = now (work .entry) }) ⌝ }
+        requires { ⌜ (Ranges (runOf self)) × (Lengths (runOf self) (planOf (now «test_dofs») (now «trial_dofs») (now work))) ⌝ }
+        requires { ⌜ self .position < pairs (runOf self .numbers) ⌝ }
+        ensures { λ r. ⌜ r ≡ recordRight (runOf self) (planOf (now («test_dofs» .entry)) (now («trial_dofs» .entry)) (now (work .entry))) ⌝ }
     {
         let e = record_at(work, wide(self.position));
         if !self.record_known(e) {
@@ -132,8 +127,8 @@ impl Run {
         let n = self.numbers;
         let test = n.test;
         let trial = n.trial;
-        let rows = cell_dofs(test_dofs, test.dim(), wide(e.test_cell));
-        let columns = cell_dofs(trial_dofs, trial.dim(), wide(e.trial_cell));
+        let rows = cell_dofs(test_dofs, test.dim(), wide(e.test));
+        let columns = cell_dofs(trial_dofs, trial.dim(), wide(e.trial));
         all_below(rows, n.rows) & all_below(columns, n.columns)
     }
 
@@ -145,7 +140,7 @@ impl Run {
         work: &[u32],
         sized: bool,
     ) -> u32
-        ensures { λ r. ⌜ r ≡ refusal (stateChecks self (record { testDofs = now («test_dofs» .entry); trialDofs = now («trial_dofs» .entry); work = now (work .entry) }) sized) ⌝ }
+        ensures { λ r. ⌜ r ≡ refusal (stateChecks (runOf self) (planOf (now («test_dofs» .entry)) (now («trial_dofs» .entry)) (now (work .entry))) sized) ⌝ }
     {
         if !self.ranges_right() {
             return 21;
@@ -172,7 +167,7 @@ impl Run {
 
     // Answers record p.
     pub fn look(self, test_dofs: &[u32], trial_dofs: &[u32], work: &[u32]) -> Looked
-        ensures { λ r. ⌜ r ≡ look self (record { testDofs = now («test_dofs» .entry); trialDofs = now («trial_dofs» .entry); work = now (work .entry) }) ⌝ }
+        ensures { λ r. ⌜ lookedOf r ≡ look (runOf self) (planOf (now («test_dofs» .entry)) (now («trial_dofs» .entry)) (now (work .entry))) ⌝ }
     {
         let v = self.state_refusal(test_dofs, trial_dofs, work, true);
         if v != 0 {

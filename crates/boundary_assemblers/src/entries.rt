@@ -2,26 +2,27 @@
 use crate::Added;
 use crate::Run;
 use crate::calls::cell_dofs;
-use crate::calls::record_at;
 use cell_pair_assemblers::LocalMatrix;
 use cell_pair_assemblers::touching_matrix;
 use grid::wide;
 use local_matrix::write_columns;
 use local_matrix::write_rows;
 use local_matrix::write_values;
+use work_records::record_at;
 ghost use mathlib.Core.Path.{_≡_};
 ghost use Prim.Native.Nat.{_≤_};
-ghost use Rattle.lists.specs.Bool.{_and_};
-ghost use Rattle.cell_pair_assemblers.specs.Facts.{touching};
+ghost use mathlib.Core.List.{[], _∷_};
+ghost use Rattle.lists.specs.Bool.{every};
+ghost use Rattle.cell_pair_assemblers.specs.Lent.{touching};
 ghost use Rattle.local_matrix.specs.Entries.{entryAt};
-ghost use Rattle.boundary_assemblers.specs.Runs.{testDim, trialDim, rangesRight, placesRight, entriesRight, addEntries, entriesWritten};
-ghost use Rattle.boundary_assemblers.specs.RunFacts.{plan, Standing};
-ghost use Rattle.boundary_assemblers.specs.EntryFacts.{entryLists, written};
+ghost use Rattle.runs.specs.Runs.{testDim, trialDim, rangesRight, placesRight, entriesRight, addEntries, entriesWritten, planOf, entryLists, written};
+ghost use Rattle.boundary_assemblers.specs.Forms.{runOf, addedOf};
+ghost use Rattle.boundary_assemblers.specs.RunFacts.{Standing};
 
 impl Run {
     // 21: the run's numbers are right, and the entry lists have their length.
     fn entries_right(self, rows: &[u32], columns: &[u32], values: &[f64]) -> bool
-        ensures { λ r. ⌜ r ≡ (rangesRight self and placesRight self and entriesRight self (entryLists (now (rows .entry)) (now (columns .entry)) (now (values .entry)))) ⌝ }
+        ensures { λ r. ⌜ r ≡ every (rangesRight (runOf self) ∷ placesRight (runOf self) ∷ entriesRight (runOf self) (entryLists (now (rows .entry)) (now (columns .entry)) (now (values .entry))) ∷ []) ⌝ }
     {
         if !self.ranges_right() {
             return false;
@@ -49,12 +50,12 @@ impl Run {
         columns: &mut [u32],
         values: &mut [f64],
     )
-        requires { ⌜ Standing self (plan (now «test_dofs») (now «trial_dofs») (now work))
-            (rangesRight self and placesRight self and entriesRight self (entryLists (now rows) (now columns) (now values))) ⌝ }
+        requires { ⌜ Standing (runOf self) (planOf (now «test_dofs») (now «trial_dofs») (now work))
+            (every (rangesRight (runOf self) ∷ placesRight (runOf self) ∷ entriesRight (runOf self) (entryLists (now rows) (now columns) (now values)) ∷ [])) ⌝ }
         requires { ⌜ self .numbers .distant ≤ self .position ⌝ }
         ensures { λ _. ⌜ entryLists (now (rows .exit)) (now (columns .exit)) (now (values .exit))
-            ≡ written self (plan (now («test_dofs» .entry)) (now («trial_dofs» .entry)) (now (work .entry)))
-            (entryAt (local .entries) (testDim self)) (entryLists (now (rows .entry)) (now (columns .entry)) (now (values .entry))) ⌝ }
+            ≡ written (runOf self) (planOf (now («test_dofs» .entry)) (now («trial_dofs» .entry)) (now (work .entry)))
+            (entryAt (local .entries) (testDim (runOf self))) (entryLists (now (rows .entry)) (now (columns .entry)) (now (values .entry))) ⌝ }
     {
         let n = self.numbers;
         let test = n.test;
@@ -62,8 +63,8 @@ impl Run {
         let test_dim = test.dim();
         let trial_dim = trial.dim();
         let e = record_at(work, wide(self.position));
-        let row_dofs = cell_dofs(test_dofs, test_dim, wide(e.test_cell));
-        let column_dofs = cell_dofs(trial_dofs, trial_dim, wide(e.trial_cell));
+        let row_dofs = cell_dofs(test_dofs, test_dim, wide(e.test));
+        let column_dofs = cell_dofs(trial_dofs, trial_dim, wide(e.trial));
         let at = (wide(self.position) - wide(n.distant)) * test_dim * trial_dim;
         write_rows(rows, at, row_dofs, column_dofs);
         write_columns(columns, at, row_dofs, column_dofs);
@@ -88,11 +89,11 @@ impl Run {
         columns: &mut [u32],
         values: &mut [f64],
     ) -> Added
-        ensures { λ r. ⌜ r ≡ addEntries self (plan (now («test_dofs» .entry)) (now («trial_dofs» .entry)) (now (work .entry)))
+        ensures { λ r. ⌜ addedOf r ≡ addEntries (runOf self) (planOf (now («test_dofs» .entry)) (now («trial_dofs» .entry)) (now (work .entry)))
             (entryLists (now (rows .entry)) (now (columns .entry)) (now (values .entry)))
             (touching points (now (weights .entry)) (now («test_table» .entry)) (now («trial_table» .entry)) (now (kernel .entry)) (now («test_geometry» .entry)) (now («trial_geometry» .entry))) ⌝ }
         ensures { λ _. ⌜ entryLists (now (rows .exit)) (now (columns .exit)) (now (values .exit))
-            ≡ entriesWritten self (plan (now («test_dofs» .entry)) (now («trial_dofs» .entry)) (now (work .entry)))
+            ≡ entriesWritten (runOf self) (planOf (now («test_dofs» .entry)) (now («trial_dofs» .entry)) (now (work .entry)))
             (entryLists (now (rows .entry)) (now (columns .entry)) (now (values .entry)))
             (touching points (now (weights .entry)) (now («test_table» .entry)) (now («trial_table» .entry)) (now (kernel .entry)) (now («test_geometry» .entry)) (now («trial_geometry» .entry))) ⌝ }
     {

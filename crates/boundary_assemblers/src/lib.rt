@@ -1,10 +1,11 @@
-// Planning, and the run.
+// The run: what planning hands back, from which a run begins, and its calls.
 mod adds;
 mod calls;
 mod entries;
 
 use function::Element;
 use integrands::Integrand;
+use work_records::WorkRecord;
 
 // The numbers that planning hands back: the sizes C, V and E of the mesh, S (touching pairs), N (distant pairs), the DOF counts (rows for test, columns
 // for trial), the elements and the integrand. (The plan itself is the two DOF lists and the work list, which are lent.)
@@ -31,13 +32,6 @@ pub struct Run {
     pub numbers: PlanNumbers,
     pub entries: bool,
     pub position: u32,
-}
-
-// A record of the work list: pattern (0 to 27 touching, 255 distant), test cell, trial cell.
-pub struct WorkRecord {
-    pub pattern: u32,
-    pub test_cell: u32,
-    pub trial_cell: u32,
 }
 
 // What look hands back.

@@ -2,17 +2,20 @@
 use Prim.Native.Nat.{ℕ, _+_, _*_, _<_, _≤_}
 use native.Mathlib.Nat.{mul-le-mul-left, mul-le-mul-right}
 use native.Mathlib.Omega.{arith}
-use mathlib.Core.Bool.{true, false, not, _&&_}
+use mathlib.Core.Bool.{true, _&&_}
 use mathlib.Core.Path.{_≡_, refl, sym, subst, _∙_, ap}
 use mathlib.Core.List.{List}
 use lib.ListN.{length, replicate, length-replicate, getD-replicate}
-use lib.Dec.{leb, eqb}
+use lib.Dec.{eqb}
 use lib.Ieee.{Float, nan}
-use borrow.Author.Tests.{eqb-true, leb-true, not-false}
-use Rattle.lists.specs.Bool.{_and_, and-left, and-right}
+use borrow.Author.Tests.{eqb-true}
+use Rattle.lists.specs.Bool.{_and_, every-at, and-left, and-right}
 use Rattle.lists.specs.Fold.{upto, upto-none, upto-more}
 use Rattle.lists.specs.Places.{in-row, in-rectangle}
-use Rattle.lists.specs.Refusals.{refusal, refusal-zero}
+use Rattle.lists.specs.Refusals.{refusal, refusal-at}
+use Rattle.grid.specs.Mesh.{within}
+use Rattle.grid.specs.Facts.{within-high}
+use Rattle.function.specs.Elements.{mostDim}
 use Rattle.table.specs.Rows.{tableRow}
 use Rattle.integrands.specs.declared.Integrand.{Integrand}
 use Rattle.integrands.specs.declared.Geometry.{Geometry}
@@ -23,10 +26,9 @@ use Rattle.integrands.specs.Terms.{kindOf, kernelWidth, tableRows}
 use Rattle.integrands.specs.ValueFacts.{plainKind, plain-first, coefficient, factored, fromSides, TestSide, TrialSide, term-from}
 use Rattle.integrands.specs.Values.{geometryAt, termValue, pointValue}
 use Rattle.integrands.specs.Columns.{Added, Held, Table, rows-some, width-some, hundred-place, first-reads}
-use Rattle.cell_pair_assemblers.specs.declared.LocalMatrix.{LocalMatrix}
 use Rattle.cell_pair_assemblers.specs.declared.Weight.{Weight}
 use Rattle.cell_pair_assemblers.specs.declared.Weight.the-variants.{Once, Twice}
-use Rattle.cell_pair_assemblers.specs.Lent.{Touching, Distant, touchingCount, touchingLengths, touchingChecks, distantCounts, distantLengths, distantChecks}
+use Rattle.cell_pair_assemblers.specs.Lent.{mostTouchingPoints, mostDistantPoints, Touching, Distant, TouchingFits, DistantFits, touchingCount, touchingLengths, touchingChecks, distantCounts, distantLengths, distantChecks}
 use Rattle.cell_pair_assemblers.specs.Entries.{touchingValue, touchingSummand, touchingEntry, distantValue, distantSummand, distantEntry}
 
 -- value·w, or value·w·v
@@ -47,29 +49,6 @@ coefficient-as k test trial e h = h ∙ ap (λ (x : ℕ). coefficient x k test t
 -- the same sums, by another name
 pub added-as : {m n : ℕ} {xs ys : List Float} {u v : ℕ → ℕ → Float} → Added m n xs ys u → ((i j : ℕ) → u i j ≡ v i j) → Added m n xs ys v
 added-as {m} {n} {xs} {ys} h e = record { size = h .size; at = λ i j l b. h .at i j l b ∙ ap (λ (x : Float). xs ! (i + m * j) ⊕ x) (e i j); rest = h .rest }
-
-abbrev pub touching : ℕ → List Float → List Float → List Float → List Float → List Float → List Float → Touching
-touching points weights testTable trialTable kernel testGeometry trialGeometry =
-    record { points = points; weights = weights; testTable = testTable; trialTable = trialTable; kernel = kernel; testGeometry = testGeometry; trialGeometry = trialGeometry }
-
-abbrev pub distant : ℕ → ℕ → List Float → List Float → List Float → List Float → List Float → List Float → List Float → Distant
-distant testPoints trialPoints testWeights trialWeights testTable trialTable kernel testGeometry trialGeometry =
-    record { testPoints = testPoints; trialPoints = trialPoints; testWeights = testWeights; trialWeights = trialWeights; testTable = testTable; trialTable = trialTable; kernel = kernel; testGeometry = testGeometry; trialGeometry = trialGeometry }
-
--- ---- what the work needs: at most ten basis functions, a point count in its range, and the lengths of check 10
-
-pub record TouchingFits (f : Integrand) (m n : ℕ) (a : Touching) : Type 0 where
-  pub testFew : m ≤ 10
-  pub trialFew : n ≤ 10
-  pub count : a .points ≤ 2048
-  pub lengths : touchingLengths f m n a ≡ true
-
-pub record DistantFits (f : Integrand) (m n : ℕ) (a : Distant) : Type 0 where
-  pub testFew : m ≤ 10
-  pub trialFew : n ≤ 10
-  pub testCount : a .testPoints ≤ 64
-  pub trialCount : a .trialPoints ≤ 64
-  pub lengths : distantLengths f m n a ≡ true
 
 -- the lengths, as equations
 pub record TouchingSizes (f : Integrand) (m n : ℕ) (a : Touching) : Type 0 where
@@ -92,35 +71,26 @@ pub record DistantSizes (f : Integrand) (m n : ℕ) (a : Distant) : Type 0 where
 pub touching-sizes : (f : Integrand) (m n : ℕ) (a : Touching) → touchingLengths f m n a ≡ true → TouchingSizes f m n a
 unfolding touchingLengths
 touching-sizes f m n a e =
-    let e5 = and-left _ _ e in
-    let e4 = and-left _ _ e5 in
-    let e3 = and-left _ _ e4 in
-    let e2 = and-left _ _ e3 in
     record {
-      weights = eqb-true _ _ (and-left _ _ e2);
-      testTable = eqb-true _ _ (and-right _ _ e2);
-      trialTable = eqb-true _ _ (and-right _ _ e3);
-      kernel = eqb-true _ _ (and-right _ _ e4);
-      testGeometry = eqb-true _ _ (and-right _ _ e5);
-      trialGeometry = eqb-true _ _ (and-right _ _ e);
+      weights = eqb-true _ _ (every-at _ e 0);
+      testTable = eqb-true _ _ (every-at _ e 1);
+      trialTable = eqb-true _ _ (every-at _ e 2);
+      kernel = eqb-true _ _ (every-at _ e 3);
+      testGeometry = eqb-true _ _ (every-at _ e 4);
+      trialGeometry = eqb-true _ _ (every-at _ e 5);
     }
 
 pub distant-sizes : (f : Integrand) (m n : ℕ) (a : Distant) → distantLengths f m n a ≡ true → DistantSizes f m n a
 unfolding distantLengths
 distant-sizes f m n a e =
-    let e6 = and-left _ _ e in
-    let e5 = and-left _ _ e6 in
-    let e4 = and-left _ _ e5 in
-    let e3 = and-left _ _ e4 in
-    let e2 = and-left _ _ e3 in
     record {
-      testWeights = eqb-true _ _ (and-left _ _ e2);
-      trialWeights = eqb-true _ _ (and-right _ _ e2);
-      testTable = eqb-true _ _ (and-right _ _ e3);
-      trialTable = eqb-true _ _ (and-right _ _ e4);
-      kernel = eqb-true _ _ (and-right _ _ e5);
-      testGeometry = eqb-true _ _ (and-right _ _ e6);
-      trialGeometry = eqb-true _ _ (and-right _ _ e);
+      testWeights = eqb-true _ _ (every-at _ e 0);
+      trialWeights = eqb-true _ _ (every-at _ e 1);
+      testTable = eqb-true _ _ (every-at _ e 2);
+      trialTable = eqb-true _ _ (every-at _ e 3);
+      kernel = eqb-true _ _ (every-at _ e 4);
+      testGeometry = eqb-true _ _ (every-at _ e 5);
+      trialGeometry = eqb-true _ _ (every-at _ e 6);
     }
 
 -- ---- no length of check 10 wraps
@@ -128,16 +98,16 @@ distant-sizes f m n a e =
 product-le : (a b A B : ℕ) → a ≤ A → b ≤ B → a * b ≤ A * B
 product-le a b A B ha hb = omega (arith, mul-le-mul-left a hb, mul-le-mul-right B ha)
 
-pub small-table : (f : Integrand) (P m : ℕ) → P ≤ 2048 → m ≤ 10 → (P * m ≤ 20480) × (tableRows f * (P * m) ≤ 61440)
+pub small-table : (f : Integrand) (P m : ℕ) → P ≤ mostTouchingPoints → m ≤ mostDim → (P * m ≤ 20480) × (tableRows f * (P * m) ≤ 61440)
 small-table f P m hp hm =
-    let inner : P * m ≤ 20480 = product-le P m 2048 10 hp hm in
+    let inner : P * m ≤ 20480 = product-le P m mostTouchingPoints mostDim hp hm in
     (inner, product-le (tableRows f) (P * m) 3 20480 (rows-some f .1) inner)
 
 pub small-kernel : (f : Integrand) (n : ℕ) → n ≤ 4096 → kernelWidth f * n ≤ 16384
 small-kernel f n h = product-le (kernelWidth f) n 4 4096 (width-some f .1) h
 
-pub small-pairs : (T R : ℕ) → T ≤ 64 → R ≤ 64 → T * R ≤ 4096
-small-pairs T R ht hr = product-le T R 64 64 ht hr
+pub small-pairs : (T R : ℕ) → T ≤ mostDistantPoints → R ≤ mostDistantPoints → T * R ≤ 4096
+small-pairs T R ht hr = product-le T R mostDistantPoints mostDistantPoints ht hr
 
 -- ---- what a point reads
 
@@ -252,68 +222,34 @@ module _ (f : Integrand) where
   distant-end a i j = refl
 
 -- every entry starts at 0
-zeros : {m n : ℕ} (v : ℕ → ℕ → Float) → m ≤ 10 → n ≤ 10 → ((i j : ℕ) → 0·0 ≡ v i j) → Held m n (replicate 100 0·0) v
+zeros : {m n : ℕ} (v : ℕ → ℕ → Float) → m ≤ mostDim → n ≤ mostDim → ((i j : ℕ) → 0·0 ≡ v i j) → Held m n (replicate 100 0·0) v
 zeros {m} {n} v hm hn e =
     record {
       size = length-replicate {A = Float} 100 0·0;
       at = λ i j l b. getD-replicate 100 (i + m * j) 0·0 nan (hundred-place m i j hm l (omega arith)) ∙ e i j;
     }
 
-pub touching-begin : (f : Integrand) {m n : ℕ} (a : Touching) → m ≤ 10 → n ≤ 10 → Held m n (replicate 100 0·0) (λ i j. touchingSum f a i j 0)
+pub touching-begin : (f : Integrand) {m n : ℕ} (a : Touching) → m ≤ mostDim → n ≤ mostDim → Held m n (replicate 100 0·0) (λ i j. touchingSum f a i j 0)
 touching-begin f a hm hn = zeros (λ i j. touchingSum f a i j 0) hm hn (touching-start f a)
 
-pub distant-begin : (f : Integrand) {m n : ℕ} (a : Distant) → m ≤ 10 → n ≤ 10 → Held m n (replicate 100 0·0) (λ i j. distantRows f a i j 0)
+pub distant-begin : (f : Integrand) {m n : ℕ} (a : Distant) → m ≤ mostDim → n ≤ mostDim → Held m n (replicate 100 0·0) (λ i j. distantRows f a i j 0)
 distant-begin f a hm hn = zeros (λ i j. distantRows f a i j 0) hm hn (distant-start f a)
-
--- ---- what is handed back: the dims, and each entry, test basis i and trial basis j at i + m·j
-
-pub record TouchingEntries (f : Integrand) (m n : ℕ) (a : Touching) (r : LocalMatrix) : Type 0 where
-  pub testDim : r .«test_dim» ≡ m
-  pub trialDim : r .«trial_dim» ≡ n
-  pub entries : (i j : ℕ) → i < m → j < n → r .entries ! (i + m * j) ≡ touchingEntry f a i j
-
-pub record DistantEntries (f : Integrand) (m n : ℕ) (a : Distant) (r : LocalMatrix) : Type 0 where
-  pub testDim : r .«test_dim» ≡ m
-  pub trialDim : r .«trial_dim» ≡ n
-  pub entries : (i j : ℕ) → i < m → j < n → r .entries ! (i + m * j) ≡ distantEntry f a i j
 
 -- ---- a local matrix may be worked out where the checks pass
 
-pub touching-fits : (f : Integrand) (m n : ℕ) (a : Touching) → m ≤ 10 → n ≤ 10 → refusal (touchingChecks f m n a) ≡ 0 → TouchingFits f m n a
+pub touching-fits : (f : Integrand) (m n : ℕ) (a : Touching) → m ≤ mostDim → n ≤ mostDim → refusal (touchingChecks f m n a) ≡ 0 → TouchingFits f m n a
 unfolding touchingCount
 touching-fits f m n a hm hn e =
-    record {
-      testFew = hm;
-      trialFew = hn;
-      count = leb-true _ _ (and-right (leb 1 (a .points)) _ (refusal-zero 8 _ _ e .0));
-      lengths = refusal-zero 9 _ _ (refusal-zero 8 _ _ e .1) .0;
-    }
+    record { testFew = hm; trialFew = hn; count = within-high _ _ _ (refusal-at _ e refl 0); lengths = refusal-at _ e refl 1 }
 
-pub distant-fits : (f : Integrand) (m n : ℕ) (a : Distant) → m ≤ 10 → n ≤ 10 → refusal (distantChecks f m n a) ≡ 0 → DistantFits f m n a
+pub few-points : (x y : ℕ) → within 1 mostDistantPoints x and within 1 mostDistantPoints y ≡ true → (x ≤ mostDistantPoints) × (y ≤ mostDistantPoints)
+few-points x y e = (within-high _ _ _ (and-left _ _ e), within-high _ _ _ (and-right _ _ e))
+
+pub distant-fits : (f : Integrand) (m n : ℕ) (a : Distant) → m ≤ mostDim → n ≤ mostDim → refusal (distantChecks f m n a) ≡ 0 → DistantFits f m n a
 unfolding distantCounts
 distant-fits f m n a hm hn e =
-    let counts = refusal-zero 8 _ _ e .0 in
-    record {
-      testFew = hm;
-      trialFew = hn;
-      testCount = leb-true _ _ (and-right (leb 1 (a .testPoints)) _ (and-left _ _ counts));
-      trialCount = leb-true _ _ (and-right (leb 1 (a .trialPoints)) _ (and-right _ _ counts));
-      lengths = refusal-zero 9 _ _ (refusal-zero 8 _ _ e .1) .0;
-    }
-
--- ---- the tests of a point count, as the code has them
-
-pub count-most : (x : ℕ) → not (leb 1 x && leb x 2048) ≡ false → x ≤ 2048
-unfolding _and_
-count-most x e = leb-true x 2048 (and-right (leb 1 x) (leb x 2048) (not-false _ e))
-
-pub counts-most : (x y : ℕ) → not ((leb 1 x && leb x 64) && (leb 1 y && leb y 64)) ≡ false → (x ≤ 64) × (y ≤ 64)
-unfolding _and_
-counts-most x y e =
-    let both = not-false _ e in (
-      leb-true x 64 (and-right (leb 1 x) (leb x 64) (and-left (leb 1 x and leb x 64) (leb 1 y and leb y 64) both)),
-      leb-true y 64 (and-right (leb 1 y) (leb y 64) (and-right (leb 1 x and leb x 64) (leb 1 y and leb y 64) both)),
-    )
+    let few = few-points _ _ (refusal-at _ e refl 0) in
+    record { testFew = hm; trialFew = hn; testCount = few .0; trialCount = few .1; lengths = refusal-at _ e refl 1 }
 
 -- what one term other than curl-curl reads of the kernel values
 pub plain-reads : (f : Integrand) (kind at : ℕ) (kernel : List Float) → kind ≡ plainKind f → (kind ≡ 3 → ⊥) → at + kernelWidth f ≤ length kernel

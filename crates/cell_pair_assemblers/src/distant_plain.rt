@@ -1,8 +1,10 @@
 // The local matrix of a distant pair, for one term other than curl-curl: c·t·r goes into the sums at once.
 use crate::LocalMatrix;
+use function::MOST_DIM;
 use integrands::Geometry;
 use integrands::Integrand;
 use integrands::Term;
+ghost use Rattle.function.specs.Elements.{mostDim};
 ghost use mathlib.Core.Path.{_≡_};
 ghost use Prim.Native.Nat.{ℕ, _+_, _*_, _<_, _≤_};
 ghost use lib.ListN.{length};
@@ -14,7 +16,9 @@ ghost use Rattle.integrands.specs.Values.{geometryAt};
 ghost use Rattle.table.specs.Rows.{tableRow};
 ghost use Rattle.integrands.specs.Columns.{Table, Held, Added};
 ghost use Rattle.integrands.specs.ValueFacts.{plainKind, factored};
-ghost use Rattle.cell_pair_assemblers.specs.Facts.{distant, DistantFits, DistantEntries, distantRows, distantSum};
+ghost use Rattle.cell_pair_assemblers.specs.Lent.{distant, DistantFits};
+ghost use Rattle.cell_pair_assemblers.specs.Entries.{DistantEntries};
+ghost use Rattle.cell_pair_assemblers.specs.Facts.{distantRows, distantSum};
 
 // One column: entry + c·t·r·w·v, with the term's factor before it.
 fn add_column_twice(
@@ -22,12 +26,12 @@ fn add_column_twice(
     dim: usize,
     j: usize,
     term: Term,
-    scaled: &[f64; 10],
+    scaled: &[f64; MOST_DIM],
     r: f64,
     w: f64,
     v: f64,
 )
-    requires { ⌜ (length (now entries) ≡ 100) × (dim ≤ 10) × (j < 10) ⌝ }
+    requires { ⌜ (length (now entries) ≡ 100) × (dim ≤ mostDim) × (j < mostDim) ⌝ }
     ensures { λ _. ⌜ Mapped nan (dim * j) dim (λ (i : ℕ) (x : Float). x ⊕ factored term (now (scaled .entry) ! i ⊗ r) ⊗ w ⊗ v) (now (entries .entry)) (now (entries .exit)) ⌝ }
 {
     for i in 0..dim {
@@ -57,7 +61,7 @@ fn add_outer_twice(
     ensures { λ _. ⌜ Added «test_dim» «trial_dim» (now (entries .entry)) (now (entries .exit)) (λ (i j : ℕ).
         factored term (c ⊗ tableRow (now («test_table» .entry)) rows «test_points» p i 0 ⊗ tableRow (now («trial_table» .entry)) rows «trial_points» q j 0) ⊗ w ⊗ v) ⌝ }
 {
-    let mut scaled = [0.0; 10];
+    let mut scaled = [0.0; MOST_DIM];
     integrands::scaled_rows(&mut scaled, c, test_table, rows, test_points, p, test_dim);
     for j in 0..trial_dim {
         let r = table::table_value(trial_table, rows, trial_points, q, j, 0);
@@ -84,7 +88,7 @@ fn add_outer_twice_3(
     ensures { λ _. ⌜ Added 3 3 (now (entries .entry)) (now (entries .exit)) (λ (i j : ℕ).
         factored term (c ⊗ tableRow (now («test_table» .entry)) rows «test_points» p i 0 ⊗ tableRow (now («trial_table» .entry)) rows «trial_points» q j 0) ⊗ w ⊗ v) ⌝ }
 {
-    let mut scaled = [0.0; 10];
+    let mut scaled = [0.0; MOST_DIM];
     integrands::scaled_rows(&mut scaled, c, test_table, rows, test_points, p, 3);
     for j in 0..3 {
         let r = table::table_value(trial_table, rows, trial_points, q, j, 0);

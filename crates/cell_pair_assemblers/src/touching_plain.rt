@@ -1,7 +1,9 @@
 // The local matrix of a touching pair, for one term other than curl-curl: c·t·r goes into the sums at once.
 use crate::LocalMatrix;
+use function::MOST_DIM;
 use integrands::Integrand;
 use integrands::Term;
+ghost use Rattle.function.specs.Elements.{mostDim};
 ghost use mathlib.Core.Path.{_≡_};
 ghost use Prim.Native.Nat.{ℕ, _+_, _*_, _<_, _≤_};
 ghost use lib.ListN.{length};
@@ -12,7 +14,9 @@ ghost use Rattle.integrands.specs.Terms.{kernelWidth, tableRows};
 ghost use Rattle.table.specs.Rows.{tableRow};
 ghost use Rattle.integrands.specs.Columns.{Table, Held, Added};
 ghost use Rattle.integrands.specs.ValueFacts.{plainKind, factored};
-ghost use Rattle.cell_pair_assemblers.specs.Facts.{touching, TouchingFits, TouchingEntries, touchingSum};
+ghost use Rattle.cell_pair_assemblers.specs.Lent.{touching, TouchingFits};
+ghost use Rattle.cell_pair_assemblers.specs.Entries.{TouchingEntries};
+ghost use Rattle.cell_pair_assemblers.specs.Facts.{touchingSum};
 
 // One column: entry + c·t·r·w, with the term's factor before it.
 fn add_column(
@@ -20,11 +24,11 @@ fn add_column(
     dim: usize,
     j: usize,
     term: Term,
-    scaled: &[f64; 10],
+    scaled: &[f64; MOST_DIM],
     r: f64,
     w: f64,
 )
-    requires { ⌜ (length (now entries) ≡ 100) × (dim ≤ 10) × (j < 10) ⌝ }
+    requires { ⌜ (length (now entries) ≡ 100) × (dim ≤ mostDim) × (j < mostDim) ⌝ }
     ensures { λ _. ⌜ Mapped nan (dim * j) dim (λ (i : ℕ) (x : Float). x ⊕ factored term (now (scaled .entry) ! i ⊗ r) ⊗ w) (now (entries .entry)) (now (entries .exit)) ⌝ }
 {
     for i in 0..dim {
@@ -53,7 +57,7 @@ fn add_outer(
     ensures { λ _. ⌜ Added «test_dim» «trial_dim» (now (entries .entry)) (now (entries .exit)) (λ (i j : ℕ).
         factored term (c ⊗ tableRow (now («test_table» .entry)) rows «test_points» p i 0 ⊗ tableRow (now («trial_table» .entry)) rows «trial_points» q j 0) ⊗ w) ⌝ }
 {
-    let mut scaled = [0.0; 10];
+    let mut scaled = [0.0; MOST_DIM];
     integrands::scaled_rows(&mut scaled, c, test_table, rows, test_points, p, test_dim);
     for j in 0..trial_dim {
         let r = table::table_value(trial_table, rows, trial_points, q, j, 0);
@@ -79,7 +83,7 @@ fn add_outer_3(
     ensures { λ _. ⌜ Added 3 3 (now (entries .entry)) (now (entries .exit)) (λ (i j : ℕ).
         factored term (c ⊗ tableRow (now («test_table» .entry)) rows «test_points» p i 0 ⊗ tableRow (now («trial_table» .entry)) rows «trial_points» q j 0) ⊗ w) ⌝ }
 {
-    let mut scaled = [0.0; 10];
+    let mut scaled = [0.0; MOST_DIM];
     integrands::scaled_rows(&mut scaled, c, test_table, rows, test_points, p, 3);
     for j in 0..3 {
         let r = table::table_value(trial_table, rows, trial_points, q, j, 0);

@@ -9,8 +9,10 @@ use Rattle.grid.specs.Examples.{M, M7-turned, M7-twice}
 use Rattle.function.specs.Numbering.{Space}
 use Rattle.function.specs.Colours.{colourList}
 use Rattle.function.specs.Examples.{element, opened-function}
+use Rattle.work_records.specs.declared.WorkRecord.{WorkRecord}
+use Rattle.work_records.specs.Records.{rec, flat}
 use Rattle.cell_pairs.specs.Patterns.{matches, edgeOf, patternOf, pattern, smallestShared, patternsRight}
-use Rattle.cell_pairs.specs.WorkList.{Rec, rec, coloured, distantPair, distantBatch, distantColours, distantPart, touchingPair, touchingPart, workList, flat, sharingPairs, distantPairs}
+use Rattle.cell_pairs.specs.WorkList.{coloured, distantPair, distantBatch, distantColours, distantPart, touchingPair, touchingPart, workList, sharingPairs, distantPairs}
 
 -- opens the definitions of this crate and of those below it
 unfoldable pub opened-cell-pairs : Unit {0}
@@ -18,7 +20,7 @@ unfolding opened-function matches edgeOf patternOf pattern smallestShared patter
 opened-cell-pairs = tt
 
 -- the work list where both elements have a = 1
-abbrev records : Mesh → ℕ → List Rec
+abbrev records : Mesh → ℕ → List WorkRecord
 records m B =
     let space : Space = record { cellVertices = m .cellVertices; cellEdges = m .cellEdges; element = element 1 0 0 } in
     workList m B (colourList space (m .cells)) (colourList space (m .cells))
@@ -43,7 +45,7 @@ pub M5-records-holds : Holds M5-records
 unfolding opened-cell-pairs
 M5-records-holds = refl
 
--- M7: a = 1, batch 1. Turned, a pattern is outside the list; twice, four records of 27
+-- M7: a = 1, batch 1. Turned, a pattern is patternCount the list; twice, four records of 27
 abbrev pub M7-pattern : Example
 M7-pattern = example (patternsRight 2 (M7-turned .cellVertices)) false
 

@@ -7,6 +7,7 @@ use Rattle.lists.specs.Bool.{_and_, _or_}
 use Rattle.lists.specs.Bounded.{all, least}
 use Rattle.lists.specs.Range.{range, when}
 use Rattle.grid.specs.Cells.{entity, has, share, firstEnd, secondEnd, sameTwo}
+use Rattle.work_records.specs.Records.{patternCount}
 
 -- a shared vertex, by its places in the two cells
 pub record Match : Type 0 where
@@ -22,18 +23,14 @@ matches vs i j =
 unfoldable pub edgeOf : ℕ → ℕ → ℕ
 edgeOf a b = least 3 (λ e. sameTwo (firstEnd e) (secondEnd e) a b)
 
--- a number that is no pattern: one more than the last
-abbrev pub outside : ℕ
-outside = 28
-
 -- Of one pair (i,j): 3i + j. Of two, on test edge e and trial edge g: 9 + 2(3e + g), plus 1 if the first trial vertex matches the second test
--- vertex. The three pairs (0,0), (1,1), (2,2): 27 (trial places rise, so three of them are 0, 1, 2)
+-- vertex. The three pairs (0,0), (1,1), (2,2): 27 (trial places rise, so three of them are 0, 1, 2). Any other list has none: one more than the last
 unfoldable pub patternOf : List Match → ℕ
-patternOf [] = outside
+patternOf [] = patternCount
 patternOf (m ∷ []) = 3 * m .test + m .trial
 patternOf (m ∷ n ∷ []) = 9 + 2 * (3 * edgeOf (m .test) (n .test) + edgeOf (m .trial) (n .trial)) + cond (eqb (m .test) (secondEnd (edgeOf (m .test) (n .test)))) 1 0
-patternOf (m ∷ n ∷ o ∷ []) = cond (eqb (m .test) 0 and eqb (n .test) 1 and eqb (o .test) 2) 27 outside
-patternOf (m ∷ n ∷ o ∷ x ∷ ms) = outside
+patternOf (m ∷ n ∷ o ∷ []) = cond (eqb (m .test) 0 and eqb (n .test) 1 and eqb (o .test) 2) 27 patternCount
+patternOf (m ∷ n ∷ o ∷ x ∷ ms) = patternCount
 
 -- the pattern of test cell i and trial cell j
 unfoldable pub pattern : List ℕ → ℕ → ℕ → ℕ
@@ -45,4 +42,4 @@ smallestShared vs top i j = least top (λ x. has vs i x and has vs j x)
 
 -- 7: each pair that shares a vertex has a pattern of the list
 unfoldable pub patternsRight : ℕ → List ℕ → Bool
-patternsRight C vs = all C (λ i. all C (λ j. not (share vs i j) or ltb (pattern vs i j) outside))
+patternsRight C vs = all C (λ i. all C (λ j. not (share vs i j) or ltb (pattern vs i j) patternCount))

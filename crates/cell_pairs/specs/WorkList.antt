@@ -10,16 +10,9 @@ use Rattle.lists.specs.Total.{total, count}
 use Rattle.grid.specs.Cells.{share}
 use Rattle.grid.specs.Mesh.{Mesh}
 use Rattle.function.specs.Colours.{colourCount}
-use Rattle.cell_pairs.specs.Patterns.{outside, pattern, smallestShared}
-
--- a record of the work list: pattern (0 to 27 touching, 255 distant), test cell, trial cell
-pub record Rec : Type 0 where
-  pub pattern : ℕ
-  pub test : ℕ
-  pub trial : ℕ
-
-abbrev pub rec : ℕ → ℕ → ℕ → Rec
-rec p i j = record { pattern = p; test = i; trial = j }
+use Rattle.work_records.specs.declared.WorkRecord.{WorkRecord}
+use Rattle.work_records.specs.Records.{rec, patternCount, distantPattern}
+use Rattle.cell_pairs.specs.Patterns.{pattern, smallestShared}
 
 -- the cells of colour c, rising, of C cells
 unfoldable pub coloured : ℕ → List ℕ → ℕ → List ℕ
@@ -30,46 +23,41 @@ abbrev pub batches : ℕ → List ℕ → List ℕ
 batches B cells = range ((length cells + (B - 1)) / B)
 
 -- a distant pair; a pair sharing a vertex is skipped
-unfoldable pub distantPair : List ℕ → ℕ → ℕ → List Rec
-distantPair vs i j = when (not (share vs i j)) (rec 255 i j ∷ [])
+unfoldable pub distantPair : List ℕ → ℕ → ℕ → List WorkRecord
+distantPair vs i j = when (not (share vs i j)) (rec distantPattern i j ∷ [])
 
 -- a pair of batches: trial cell, test cell
-unfoldable pub distantBatch : List ℕ → List ℕ → List ℕ → List Rec
+unfoldable pub distantBatch : List ℕ → List ℕ → List ℕ → List WorkRecord
 distantBatch vs tests trials = flatMap (λ j. flatMap (λ i. distantPair vs i j) tests) trials
 
 -- a pair of colours: test batch, trial batch
-unfoldable pub distantColours : List ℕ → ℕ → List ℕ → List ℕ → List Rec
+unfoldable pub distantColours : List ℕ → ℕ → List ℕ → List ℕ → List WorkRecord
 distantColours vs B tests trials =
     flatMap (λ b. flatMap (λ d. distantBatch vs (batch B b tests) (batch B d trials)) (batches B trials)) (batches B tests)
 
 -- distant pairs, the outermost key first: test colour, trial colour, test batch, trial batch, trial cell, test cell. ts and rs are the colours of
 -- the cells for the test and for the trial element
-unfoldable pub distantPart : Mesh → ℕ → List ℕ → List ℕ → List Rec
+unfoldable pub distantPart : Mesh → ℕ → List ℕ → List ℕ → List WorkRecord
 distantPart m B ts rs =
     flatMap
     (λ c. flatMap (λ d. distantColours (m .cellVertices) B (coloured (m .cells) ts c) (coloured (m .cells) rs d)) (range (colourCount rs)))
     (range (colourCount ts))
 
 -- a touching pair, at its pattern p and at its smallest shared vertex v
-unfoldable pub touchingPair : Mesh → ℕ → ℕ → ℕ → ℕ → List Rec
+unfoldable pub touchingPair : Mesh → ℕ → ℕ → ℕ → ℕ → List WorkRecord
 touchingPair m p v i j =
     when (eqb (smallestShared (m .cellVertices) (m .vertices) i j) v and eqb (pattern (m .cellVertices) i j) p) (rec p i j ∷ [])
 
 -- touching pairs: pattern (0 to 27), vertex, test cell, trial cell, all rising
-unfoldable pub touchingPart : Mesh → List Rec
+unfoldable pub touchingPart : Mesh → List WorkRecord
 touchingPart m =
     flatMap
     (λ p. flatMap (λ v. flatMap (λ i. flatMap (λ j. touchingPair m p v i j) (range (m .cells))) (range (m .cells))) (range (m .vertices)))
-    (range outside)
+    (range patternCount)
 
 -- all: distant first, touching pairs follow
-unfoldable pub workList : Mesh → ℕ → List ℕ → List ℕ → List Rec
+unfoldable pub workList : Mesh → ℕ → List ℕ → List ℕ → List WorkRecord
 workList m B ts rs = distantPart m B ts rs ++ touchingPart m
-
--- the numbers of records, in order
-unfoldable pub flat : List Rec → List ℕ
-flat [] = []
-flat (r ∷ rs) = r .pattern ∷ r .test ∷ r .trial ∷ flat rs
 
 -- S: the ordered pairs of cells that share a vertex, a cell with itself included
 unfoldable pub sharingPairs : Mesh → ℕ

@@ -7,16 +7,17 @@ use mathlib.Core.Path.{_≡_, refl, sym, ap, ap₂, subst, _∙_}
 use mathlib.Core.Bool.{Bool, true, false, cond, not, _&&_}
 use mathlib.Core.Logic.{_⊎_, inl, inr, ⊎-elim}
 use mathlib.Core.List.{List, [], _∷_, _++_, flatMap, append-nil}
-use lib.ListN.{length, getD}
+use lib.ListN.{getD}
 use lib.Dec.{eqb, ltb}
 use borrow.Author.Tests.{eqb-true, eqb-false, ltb-true, ltb-false, lt-ltb, le-ltb, not-true}
-use Rattle.lists.specs.Bool.{_and_, _or_, true≢false, cases, and-left, and-right, and-both, and-no-left, and-no-right, or-cases, or-left, or-right, or-no-left, or-no-right, turned, passed}
+use Rattle.lists.specs.Bool.{_and_, _or_, true≢false, cases, every, every-at, every-fails, every-of, _also_, end, and-both, and-no-left, and-no-right, or-cases, or-left, or-right, or-no-left, or-no-right, turned, passed}
 use Rattle.lists.specs.Bounded.{some, least, least-is, some-at}
 use Rattle.lists.specs.Range.{range, when}
 use Rattle.grid.specs.Facts.{has-at, share-turned}
 use Rattle.grid.specs.Cells.{entity, has, share, secondEnd, sameTwo}
 use Rattle.grid.specs.Mesh.{distinct}
-use Rattle.cell_pairs.specs.Patterns.{Match, matches, edgeOf, patternOf, pattern, outside, smallestShared}
+use Rattle.work_records.specs.Records.{patternCount}
+use Rattle.cell_pairs.specs.Patterns.{Match, matches, edgeOf, patternOf, pattern, smallestShared}
 
 -- ---- places
 
@@ -177,7 +178,7 @@ edge-aligned a b g h k n l = rw (edge-pattern a b g h k n, le-ltb b a l) (omega 
 
 -- the pattern of three shared vertices
 abbrev pub threePattern : ℕ → ℕ → ℕ → ℕ
-threePattern a b c = cond (eqb a 0 and eqb b 1 and eqb c 2) 27 outside
+threePattern a b c = cond (eqb a 0 and eqb b 1 and eqb c 2) 27 patternCount
 
 -- the matches, where tests say which trial vertices are shared
 abbrev matchesBy : Bool → Bool → Bool → ℕ → ℕ → ℕ → List Match
@@ -192,7 +193,7 @@ patternBy false true true a b c = edgePattern b c 0
 patternBy true false false a b c = 3 * a
 patternBy false true false a b c = 3 * b + 1
 patternBy false false true a b c = 3 * c + 2
-patternBy false false false a b c = outside
+patternBy false false false a b c = patternCount
 
 pattern-by : (e f g : Bool) (a b c : ℕ) → patternOf (matchesBy e f g a b c) ≡ patternBy e f g a b c
 unfolding patternOf patternBy edgeOf least sameTwo _and_ _or_
@@ -239,7 +240,7 @@ module _ {a b c : ℕ} where
   unfolding patternBy
   at-c h k l = at-by a b c (le-ltb _ _ h) (le-ltb _ _ k) (lt-ltb _ _ l)
 
-  pub at-none : 3 ≤ a → 3 ≤ b → 3 ≤ c → patternOf (matchesAt a b c) ≡ outside
+  pub at-none : 3 ≤ a → 3 ≤ b → 3 ≤ c → patternOf (matchesAt a b c) ≡ patternCount
   unfolding patternBy
   at-none h k l = at-by a b c (le-ltb _ _ h) (le-ltb _ _ k) (le-ltb _ _ l)
 
@@ -249,22 +250,18 @@ flag-le : (b : Bool) → cond b 1 0 ≤ 1
 flag-le true = omega arith
 flag-le false = omega arith
 
-edge-range : (a b g : ℕ) → a < 3 → b < 3 → (a ≡ b → ⊥) → g < 3 → edgePattern a b g < 28
+edge-range : (a b g : ℕ) → a < 3 → b < 3 → (a ≡ b → ⊥) → g < 3 → edgePattern a b g < patternCount
 edge-range a b g h k n l = rw (edge-pattern a b g h k n) (go a b h k n)
   where
-    go : (a b : ℕ) → a < 3 → b < 3 → (a ≡ b → ⊥) → 9 + 2 * (3 * (3 - (a + b)) + g) + cond (ltb b a) 1 0 < 28
+    go : (a b : ℕ) → a < 3 → b < 3 → (a ≡ b → ⊥) → 9 + 2 * (3 * (3 - (a + b)) + g) + cond (ltb b a) 1 0 < patternCount
     go zero zero h k n = absurd (n refl)
     go zero (suc b) h k n = omega (arith, flag-le (ltb (suc b) zero))
     go (suc a) b h k n = omega (arith, flag-le (ltb b (suc a)))
 
-three-le : (b : Bool) → cond b 27 28 ≤ 28
-three-le true = omega arith
-three-le false = omega arith
-
 module _ (a b c : ℕ) (h : Places a b c) where
   -- one or two shared vertices have a pattern
-  few-by : (e f g : Bool) → ltb a 3 ≡ e → ltb b 3 ≡ f → ltb c 3 ≡ g → e or f or g ≡ true → e and f and g ≡ false → patternBy e f g a b c < 28
-  unfolding patternBy _and_ _or_
+  few-by : (e f g : Bool) → ltb a 3 ≡ e → ltb b 3 ≡ f → ltb c 3 ≡ g → e or f or g ≡ true → every (e ∷ f ∷ g ∷ []) ≡ false → patternBy e f g a b c < patternCount
+  unfolding patternBy every _and_ _or_
   few-by true true true p q r s t = absurd (true≢false t)
   few-by true true false p q r s t = edge-range a b 2 (ltb-true _ _ p) (ltb-true _ _ q) (h .ab (ltb-true _ _ p)) (omega arith)
   few-by true false true p q r s t = edge-range a c 1 (ltb-true _ _ p) (ltb-true _ _ r) (h .ac (ltb-true _ _ p)) (omega arith)
@@ -274,51 +271,8 @@ module _ (a b c : ℕ) (h : Places a b c) where
   few-by false false true p q r s t = omega (arith, ltb-true c 3 r)
   few-by false false false p q r s t = absurd (true≢false (sym s))
 
-  range-by : (e f g : Bool) → (e or f or g ≡ true → e and f and g ≡ false → patternBy e f g a b c < 28) → patternBy e f g a b c ≤ 28
-  unfolding patternBy _and_ _or_
-  range-by true true true few = three-le (eqb a 0 and eqb b 1 and eqb c 2)
-  range-by true true false few = omega (arith, few refl refl)
-  range-by true false true few = omega (arith, few refl refl)
-  range-by false true true few = omega (arith, few refl refl)
-  range-by true false false few = omega (arith, few refl refl)
-  range-by false true false few = omega (arith, few refl refl)
-  range-by false false true few = omega (arith, few refl refl)
-  range-by false false false few = omega arith
-
-  few-at : ltb a 3 or ltb b 3 or ltb c 3 ≡ true → ltb a 3 and ltb b 3 and ltb c 3 ≡ false → patternOf (matchesAt a b c) < 28
+  few-at : ltb a 3 or ltb b 3 or ltb c 3 ≡ true → every (ltb a 3 ∷ ltb b 3 ∷ ltb c 3 ∷ []) ≡ false → patternOf (matchesAt a b c) < patternCount
   few-at s t = rw (at-by a b c refl refl refl) (few-by (ltb a 3) (ltb b 3) (ltb c 3) refl refl refl s t)
-
-  range-at : patternOf (matchesAt a b c) ≤ 28
-  range-at = rw (at-by a b c refl refl refl) (range-by (ltb a 3) (ltb b 3) (ltb c 3) (few-by (ltb a 3) (ltb b 3) (ltb c 3) refl refl refl))
-
--- how many shared vertices the tests count
-some-by : (e f g : Bool) (a b c : ℕ) → 0 < length (matchesBy e f g a b c) → e or f or g ≡ true
-unfolding _or_
-some-by true f g a b c h = refl
-some-by false true g a b c h = refl
-some-by false false true a b c h = refl
-some-by false false false a b c h = absurd (omega arith)
-
-not-all-by : (e f g : Bool) (a b c : ℕ) → length (matchesBy e f g a b c) < 3 → e and f and g ≡ false
-unfolding _and_
-not-all-by true true true a b c h = absurd (omega arith)
-not-all-by true true false a b c h = refl
-not-all-by true false g a b c h = refl
-not-all-by false f g a b c h = refl
-
--- the pattern of two cells, none with a vertex twice, is one of the list or 28
-pub pattern-range : (vs : List ℕ) (i j : ℕ) → distinct vs i ≡ true → distinct vs j ≡ true → pattern vs i j ≤ outside
-pattern-range vs i j d k = rw (pattern-at vs i j d) (range-at _ _ _ (places-of vs i j k))
-
--- one or two shared vertices always have a pattern
-pub pattern-few : (vs : List ℕ) (i j : ℕ) → distinct vs i ≡ true → distinct vs j ≡ true
-    → 0 < length (matches vs i j) → length (matches vs i j) < 3 → pattern vs i j < outside
-unfolding matchesAt
-pattern-few vs i j d k s t =
-    rw (pattern-at vs i j d)
-    (few-at _ _ _ (places-of vs i j k)
-    (some-by _ _ _ _ _ _ (rw (matches-at vs i j d) at s))
-    (not-all-by _ _ _ _ _ _ (rw (matches-at vs i j d) at t)))
 
 -- ---- which vertices are shared
 
@@ -351,11 +305,11 @@ share-first vs i j h = share-turned vs j i (some-at 3 (λ q. has vs i (entity vs
 
 -- the test of one pair
 abbrev pub pairRight : List ℕ → ℕ → ℕ → Bool
-pairRight vs i j = not (share vs i j) or ltb (pattern vs i j) outside
+pairRight vs i j = not (share vs i j) or ltb (pattern vs i j) patternCount
 
 -- all three vertices of cell j are vertices of cell i
 abbrev pub sharesAll : List ℕ → ℕ → ℕ → Bool
-sharesAll vs i j = has vs i (entity vs j 0) and has vs i (entity vs j 1) and has vs i (entity vs j 2)
+sharesAll vs i j = every (has vs i (entity vs j 0) ∷ has vs i (entity vs j 1) ∷ has vs i (entity vs j 2) ∷ [])
 
 -- cells i and j have the same list
 abbrev pub sameList : List ℕ → ℕ → ℕ → Bool
@@ -385,13 +339,13 @@ third-place false true false h = refl
 third-place false false true h = refl
 third-place false false false h = refl
 
-three-right : (b : Bool) → ltb (cond b 27 28) 28 ≡ b
+three-right : (b : Bool) → ltb (cond b 27 patternCount) patternCount ≡ b
 three-right true = refl
 three-right false = refl
 
 module _ (vs : List ℕ) (i j : ℕ) (d : distinct vs i ≡ true) (k : distinct vs j ≡ true) where
   -- a pair that shares one or two vertices has a pattern
-  share-few : share vs i j ≡ true → sharesAll vs i j ≡ false → pattern vs i j < outside
+  share-few : share vs i j ≡ true → sharesAll vs i j ≡ false → pattern vs i j < patternCount
   share-few s t =
       rw (pattern-at vs i j d)
       (few-at _ _ _ (places-of vs i j k)
@@ -406,29 +360,29 @@ module _ (vs : List ℕ) (i j : ℕ) (d : distinct vs i ≡ true) (k : distinct 
   shared q h = ltb-true _ _ (sym (has-place vs i (entity vs j q)) ∙ h)
 
   -- the pattern of a pair that shares three
-  all-pattern : sharesAll vs i j ≡ true → pattern vs i j ≡ cond (sameList vs i j) 27 28
+  all-pattern : sharesAll vs i j ≡ true → pattern vs i j ≡ cond (sameList vs i j) 27 patternCount
   all-pattern t =
       pattern-at vs i j d
-      ∙ at-abc (shared 0 (and-left _ _ (and-left _ _ t))) (shared 1 (and-right _ _ (and-left _ _ t))) (shared 2 (and-right _ _ t))
+      ∙ at-abc (shared 0 (every-at _ t 0)) (shared 1 (every-at _ t 1)) (shared 2 (every-at _ t 2))
       ∙ rw (first-place (eqb (entity vs i 0) (entity vs j 0)), second-place _ _ _ (lone vs i (entity vs j 1) d), third-place _ _ _ (lone vs i (entity vs j 2) d))
 
   -- it passes where the two lists are the same
   pub all-right : sharesAll vs i j ≡ true → pairRight vs i j ≡ sameList vs i j
   unfolding _or_
-  all-right t = rw (share-first vs i j (and-left _ _ (and-left _ _ t)), all-pattern t) (three-right (sameList vs i j))
+  all-right t = rw (share-first vs i j (every-at _ t 0), all-pattern t) (three-right (sameList vs i j))
 
   -- the answers of a search that stops early
   pub first-missing : {b : Bool} → b ≡ has vs i (getD vs (3 * j) 0) → not b ≡ true → true ≡ pairRight vs i j
-  first-missing e h = sym (few-right (and-no-left _ _ (and-no-left _ _ (rw add-zero (turned e h)))))
+  first-missing e h = sym (few-right (every-fails _ 0 (rw add-zero (turned e h))))
 
   pub rest-missing : (b c : Bool) → b ≡ has vs i (entity vs j 1) → c ≡ has vs i (entity vs j 2) → not (b && c) ≡ true → true ≡ pairRight vs i j
   rest-missing true true e f h = absurd (true≢false (sym h))
-  rest-missing true false e f h = sym (few-right (and-no-right _ _ (sym f)))
-  rest-missing false c e f h = sym (few-right (and-no-left _ _ (and-no-right _ _ (sym e))))
+  rest-missing true false e f h = sym (few-right (every-fails _ 2 (sym f)))
+  rest-missing false c e f h = sym (few-right (every-fails _ 1 (sym e)))
 
   pub none-missing : (a b c : Bool) → a ≡ has vs i (getD vs (3 * j) 0) → not a ≡ false → b ≡ has vs i (entity vs j 1) → c ≡ has vs i (entity vs j 2) → not (b && c) ≡ false
       → pairRight vs i j ≡ sameList vs i j
-  none-missing a true true e g f f′ h = all-right (and-both _ _ (and-both _ _ (rw add-zero (passed e g)) (sym f)) (sym f′))
+  none-missing a true true e g f f′ h = all-right (every-of (rw add-zero (passed e g) also sym f also sym f′ also end))
   none-missing a true false e g f f′ h = absurd (true≢false h)
   none-missing a false c e g f f′ h = absurd (true≢false h)
 

@@ -1,6 +1,7 @@
 // Touching pairs (`get_pairs_if_smallest`): the pattern of two cells, their smallest shared vertex, and check 7.
 use grid::has_entity;
 use grid::wide;
+use work_records::NO_PATTERN;
 ghost use mathlib.Core.Path.{_≡_};
 ghost use mathlib.Core.Bool.{true};
 ghost use Prim.Native.Nat.{ℕ, _+_, _*_, _≤_, _<_};
@@ -45,7 +46,7 @@ fn all_three(a: u32, b: u32, c: u32) -> u32
     if (a == 0) & (b == 1) & (c == 2) {
         27
     } else {
-        28
+        NO_PATTERN
     }
 }
 
@@ -83,10 +84,10 @@ fn pattern_at(a: u32, b: u32, c: u32) -> u32
     if c < 3 {
         return 3 * c + 2;
     }
-    28
+    NO_PATTERN
 }
 
-// The pattern of test cell i and trial cell j, 28 where it is none of the list. No cell may have a vertex twice.
+// The pattern of test cell i and trial cell j, NO_PATTERN where it is none of the list. No cell may have a vertex twice.
 pub fn pattern_of(vertices: &[u32], i: usize, j: usize) -> u32
     requires { ⌜ (3 * i + 3 ≤ length (now vertices)) × (3 * j + 3 ≤ length (now vertices)) ⌝ }
     requires { ⌜ (distinct (now vertices) i ≡ true) × (distinct (now vertices) j ≡ true) ⌝ }

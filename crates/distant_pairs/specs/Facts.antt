@@ -6,15 +6,17 @@ use mathlib.Core.List.{List, [], _∷_}
 use Prim.Native.Nat.{ℕ, _+_, _-_, _*_, _/_, _≤_, _<_}
 use native.Mathlib.Nat.{add-zero, div-mul-le-self, lt-div-mul-add, mul-le-mul-left, mul-le-mul-right}
 use native.Mathlib.Omega.{arith}
-use lib.ListN.{length, getD}
+use lib.ListN.{getD}
 use Rattle.lists.specs.Bool.{_or_}
 use Rattle.lists.specs.Bounded.{some, lt-or-le}
 use Rattle.lists.specs.Range.{flatMap-below}
 use Rattle.grid.specs.Cells.{has, share}
 use Rattle.grid.specs.Mesh.{Mesh}
 use Rattle.function.specs.Colours.{colourCount}
-use Rattle.cell_pairs.specs.WorkList.{rec, coloured, distantPair, distantColours, distantPart}
-use Rattle.cell_groups.specs.Groups.{Grouped, Laid, grouped}
+use Rattle.work_records.specs.Records.{rec, distantPattern}
+use Rattle.cell_pairs.specs.WorkList.{coloured, distantPair, distantColours, distantPart}
+use Rattle.cells_by_key.specs.Groups.{Grouped}
+use Rattle.cells_by_key.specs.GroupsFacts.{grouped-each}
 use Rattle.distant_pairs.specs.Distant.{Corners, hasOneOf, distantRest, distantParts}
 
 -- ---- a pair
@@ -37,7 +39,7 @@ module _ {vs : List ℕ} {i j a b c k : ℕ} {r : Bool} (at : Corners vs j a b c
   unfolding distantPair
   pair-none h = rw (sym told ∙ h)
 
-  pub pair-one : r ≡ false → distantPair vs i j ≡ rec 255 i j ∷ []
+  pub pair-one : r ≡ false → distantPair vs i j ≡ rec distantPattern i j ∷ []
   unfolding distantPair
   pair-one h = rw (sym told ∙ h)
 
@@ -72,19 +74,12 @@ batch-begins size b n h = omega (arith, mul-le-mul-right size h, div-mul-le-self
 -- ---- all
 
 -- the parts are the colours: this is the distant part of the work list
-pub distant-is : (m : Mesh) (B : ℕ) (ts rs : List ℕ) {testOrder testStarts trialOrder trialStarts : List ℕ}
-    → Grouped testOrder testStarts (colourCount ts) (coloured (m .cells) ts)
-    → Grouped trialOrder trialStarts (colourCount rs) (coloured (m .cells) rs)
-    → distantParts (m .cellVertices) B testOrder testStarts trialOrder trialStarts ≡ distantPart m B ts rs
+pub distant-is : (m : Mesh) (B : ℕ) (ts rs : List ℕ) {testOrder testEnds trialOrder trialEnds : List ℕ}
+    → Grouped testOrder testEnds (colourCount ts) (coloured (m .cells) ts)
+    → Grouped trialOrder trialEnds (colourCount rs) (coloured (m .cells) rs)
+    → distantParts (m .cellVertices) B testOrder testEnds trialOrder trialEnds ≡ distantPart m B ts rs
 unfolding distantParts distantRest distantPart
 distant-is m B ts rs t r =
-    rw (t .parts, r .parts)
+    rw (t .size, r .size)
     (flatMap-below _ _ (colourCount ts)
-    (λ c hc. flatMap-below _ _ (colourCount rs) (λ d hd. ap₂ (distantColours (m .cellVertices) B) (t .each c hc) (r .each d hd))))
-
--- the same of what `by_colour` lays out for the two elements
-pub distant-laid : (m : Mesh) (B : ℕ) (ts rs : List ℕ) {a testOrder testStarts b trialOrder trialStarts : List ℕ} → length ts ≡ m .cells → length rs ≡ m .cells
-    → Laid a testOrder testStarts (colourCount ts) (coloured (length ts) ts)
-    → Laid b trialOrder trialStarts (colourCount rs) (coloured (length rs) rs)
-    → distantParts (m .cellVertices) B testOrder testStarts trialOrder trialStarts ≡ distantPart m B ts rs
-distant-laid m B ts rs e f t r = distant-is m B ts rs (rw e at (grouped t)) (rw f at (grouped r))
+    (λ c hc. flatMap-below _ _ (colourCount rs) (λ d hd. ap₂ (distantColours (m .cellVertices) B) (grouped-each t c hc) (grouped-each r d hd))))

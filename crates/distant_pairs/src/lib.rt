@@ -1,17 +1,19 @@
 // Writes the distant part of the work list: a small function for each loop of the order, each with a
 // contract of one form, `Wrote ..`: the lent list is as it was with these records written from a place
 // on, and the result is the place after them.
-use cell_groups::part_of;
+use cells_by_key::part_of;
 use grid::wide;
+use work_records::DISTANT;
+use work_records::WorkRecord;
+use work_records::put_record;
 ghost use mathlib.Core.Path.{_≡_};
-ghost use mathlib.Core.List.{[], _∷_};
 ghost use Prim.Native.Nat.{_+_, _*_, _≤_, _<_};
 ghost use lib.ListN.{length};
 ghost use Rattle.lists.specs.Range.{batch};
 ghost use Rattle.lists.specs.Writes.{Wrote, Room};
-ghost use Rattle.cell_pairs.specs.WorkList.{rec, distantPair, distantBatch, distantColours};
-ghost use Rattle.pair_counts.specs.Records.{records};
-ghost use Rattle.cell_groups.specs.Groups.{Cells, Cuts};
+ghost use Rattle.work_records.specs.Laws.{records};
+ghost use Rattle.cell_pairs.specs.WorkList.{distantPair, distantBatch, distantColours};
+ghost use Rattle.cells_by_key.specs.Groups.{Cells, Cut};
 ghost use Rattle.distant_pairs.specs.Distant.{Corners, hasOneOf, distantRow, distantTrials, distantRest, distantParts};
 
 // Whether one of three vertices is the cell's.
@@ -26,17 +28,6 @@ fn has_one_of(vertices: &[u32], cell: usize, a: u32, b: u32, c: u32) -> bool
     ((a == x) | (b == x) | (c == x))
         | ((a == y) | (b == y) | (c == y))
         | ((a == z) | (b == z) | (c == z))
-}
-
-// One record.
-pub fn push(work: &mut [u32], at: usize, pattern: u32, test: u32, trial: u32) -> usize
-    requires { ⌜ Room records (now work) at (rec pattern test trial ∷ []) ⌝ }
-    ensures { λ r. ⌜ Wrote records (now (work .entry)) (now (work .exit)) at r (rec pattern test trial ∷ []) ⌝ }
-{
-    work[3 * at] = pattern;
-    work[3 * at + 1] = test;
-    work[3 * at + 2] = trial;
-    at + 1
 }
 
 // The record of a pair of cells, if they are distant. a, b and c are the trial cell's vertices.
@@ -58,7 +49,15 @@ fn write_pair(
     if has_one_of(vertices, wide(test), a, b, c) {
         at
     } else {
-        push(work, at, 255, test, trial)
+        put_record(
+            work,
+            at,
+            WorkRecord {
+                pattern: DISTANT,
+                test: test,
+                trial: trial,
+            },
+        )
     }
 }
 
@@ -178,63 +177,54 @@ fn write_rest(
     batch: usize,
     tests: &[u32],
     order: &[u32],
-    starts: &[u32],
+    ends: &[usize],
     work: &mut [u32],
     at: usize,
 ) -> usize
     requires { ⌜ (0 < batch) × (batch < 65536) ⌝ }
     requires { ⌜ Cells (now vertices) (now tests) ⌝ }
-    requires { ⌜ Cuts (now vertices) (now order) (now starts) ⌝ }
-    requires { ⌜ 0 < length (now starts) ⌝ }
-    requires { ⌜ Room records (now work) at (distantRest (now vertices) batch (now tests) (now order) (now starts)) ⌝ }
+    requires { ⌜ Cut (now vertices) (now order) (now ends) ⌝ }
+    requires { ⌜ Room records (now work) at (distantRest (now vertices) batch (now tests) (now order) (now ends)) ⌝ }
     ensures { λ r. ⌜ Wrote records (now (work .entry)) (now (work .exit)) at r
-        (distantRest (now (vertices .entry)) batch (now (tests .entry)) (now (order .entry)) (now (starts .entry))) ⌝ }
+        (distantRest (now (vertices .entry)) batch (now (tests .entry)) (now (order .entry)) (now (ends .entry))) ⌝ }
 {
-    let n = starts.len() - 1;
+    let n = ends.len();
     let mut next = at;
     for d in 0..n {
-        next = write_colours(
-            vertices,
-            batch,
-            tests,
-            part_of(order, starts, d),
-            work,
-            next,
-        );
+        next = write_colours(vertices, batch, tests, part_of(order, ends, d), work, next);
     }
     next
 }
 
-// All distant pairs, from the front of the work list on: how many there are. Each order holds the cells colour after colour, and the starts
-// where each colour's begin.
+// All distant pairs, from the front of the work list on: how many there are. Each order holds the cells colour after colour, and the ends
+// where each colour's end.
 pub fn write_distant(
     vertices: &[u32],
     batch: usize,
     test_order: &[u32],
-    test_starts: &[u32],
+    test_ends: &[usize],
     trial_order: &[u32],
-    trial_starts: &[u32],
+    trial_ends: &[usize],
     work: &mut [u32],
 ) -> usize
     requires { ⌜ (0 < batch) × (batch < 65536) ⌝ }
-    requires { ⌜ Cuts (now vertices) (now «test_order») (now «test_starts») ⌝ }
-    requires { ⌜ Cuts (now vertices) (now «trial_order») (now «trial_starts») ⌝ }
-    requires { ⌜ (0 < length (now «test_starts»)) × (0 < length (now «trial_starts»)) ⌝ }
+    requires { ⌜ Cut (now vertices) (now «test_order») (now «test_ends») ⌝ }
+    requires { ⌜ Cut (now vertices) (now «trial_order») (now «trial_ends») ⌝ }
     requires { ⌜ Room records (now work) 0
-        (distantParts (now vertices) batch (now «test_order») (now «test_starts») (now «trial_order») (now «trial_starts»)) ⌝ }
+        (distantParts (now vertices) batch (now «test_order») (now «test_ends») (now «trial_order») (now «trial_ends»)) ⌝ }
     ensures { λ r. ⌜ Wrote records (now (work .entry)) (now (work .exit)) 0 r
-        (distantParts (now (vertices .entry)) batch (now («test_order» .entry)) (now («test_starts» .entry)) (now («trial_order» .entry))
-        (now («trial_starts» .entry))) ⌝ }
+        (distantParts (now (vertices .entry)) batch (now («test_order» .entry)) (now («test_ends» .entry)) (now («trial_order» .entry))
+        (now («trial_ends» .entry))) ⌝ }
 {
-    let n = test_starts.len() - 1;
+    let n = test_ends.len();
     let mut next = 0;
     for c in 0..n {
         next = write_rest(
             vertices,
             batch,
-            part_of(test_order, test_starts, c),
+            part_of(test_order, test_ends, c),
             trial_order,
-            trial_starts,
+            trial_ends,
             work,
             next,
         );

@@ -6,7 +6,7 @@ use Rattle.function.specs.Examples.{M1-colours, M1-dofs, M2-dofs, M3-colours, M
 use Rattle.integrands.specs.Examples.{F3, F4, F3-holds, F4-holds}
 use Rattle.cell_pair_assemblers.specs.Examples.{F1, F2, F1-rounded, F2-rounded, F1-holds, F2-holds, F1-rounded-holds, F2-rounded-holds}
 use Rattle.cell_pairs.specs.Examples.{M4-records, M5-records, M7-records, M4-records-holds, M5-records-holds, M7-records-holds}
-use Rattle.boundary_assemblers.specs.Examples.{M-planned, M-sizes, M6-distant, M6-touching, M6-sum, M7-refused, M7-planned, M8-batch, M8-cells, M-planned-holds, M-sizes-holds, M6-distant-holds, M6-touching-holds, M6-sum-holds, M7-refused-holds, M7-planned-holds, M8-batch-holds, M8-cells-holds}
+use Rattle.plans.specs.Examples.{M-planned, M-sizes, M6-distant, M6-touching, M6-sum, M7-refused, M7-planned, M8-batch, M8-cells, M-planned-holds, M-sizes-holds, M6-distant-holds, M6-touching-holds, M6-sum-holds, M7-refused-holds, M7-planned-holds, M8-batch-holds, M8-cells-holds}
 use Rattle.job.specs.Examples.{M4-read, M4-vertices, M4-edges, short-refused, short-vertices, large-limited, large-free, M4-read-holds, M4-vertices-holds, M4-edges-holds, short-refused-holds, short-vertices-holds, large-limited-holds, large-free-holds}
 use Rattle.job_text.specs.Examples.{M4, M5, M7-turned-text, M7-twice-text, M8-batch-text, M4-short, M4-longer, job-large, M4-holds, M5-holds, M7-turned-text-holds, M7-twice-text-holds, M8-batch-text-holds, M4-short-holds, M4-longer-holds, job-large-holds}
 

@@ -9,6 +9,7 @@ use lib.Dec.{eqb, ltb}
 use Rattle.lists.specs.Bool.{_and_}
 use Rattle.lists.specs.Bounded.{some, least}
 use Rattle.grid.specs.Cells.{share}
+use Rattle.grid.specs.Mesh.{mostCells}
 use Rattle.function.specs.Numbering.{Space}
 
 -- an earlier cell that shares with cell i, by the relation r, has colour c of the colours cs
@@ -39,7 +40,7 @@ colourCount (c ∷ cs) = max (suc c) (colourCount cs)
 
 -- what `cell_colouring` asks of its lists: three numbers a cell, and one place for each colour
 pub record Colourable (C : ℕ) (vertices edges colours : List ℕ) : Type 0 where
-  pub cells : C ≤ 2048
+  pub cells : C ≤ mostCells
   pub vertex-list : length vertices ≡ 3 * C
   pub edge-list : length edges ≡ 3 * C
   pub places : length colours ≡ C

@@ -1,6 +1,6 @@
 -- What follows from the definition of the colours, and what the functions that colour a mesh ask and hold. Assumes nothing.
 use Prim.Native.Nat.{ℕ, zero, suc, _+_, _*_, _<_, _≤_, max}
-use native.Mathlib.Nat.{not-suc-le-zero, eq-or-lt-of-le, le-of-suc-le-suc, lt-irrefl, le-max-left, le-max-right, max-le}
+use native.Mathlib.Nat.{not-suc-le-zero, eq-or-lt-of-le, le-of-suc-le-suc, lt-irrefl, max-le}
 use native.Mathlib.Numerals.{add-one}
 use native.Mathlib.Omega.{arith}
 use mathlib.Core.Bool.{Bool, true, false, not, cond}
@@ -15,6 +15,7 @@ use Rattle.lists.specs.Bool.{_and_, _or_, true≢false, and-both, and-no-left, 
 use Rattle.lists.specs.Bounded.{some, least, some-not, some-none, some-ext, some-more, some-start, least-is, least-le, least-holds, least-ext, eq-or-ne}
 use Rattle.lists.specs.Stores.{sets-more, sets-all, getD-front}
 use Rattle.grid.specs.Cells.{has, share}
+use Rattle.grid.specs.Mesh.{mostCells}
 use Rattle.function.specs.Numbering.{Space}
 use Rattle.function.specs.Colours.{taken, smallest, coloursTo, sharing, colourList, colourCount}
 
@@ -88,20 +89,20 @@ unfoldable pub takenTo : (ℕ → ℕ → Bool) → List ℕ → ℕ → ℕ →
 takenTo r cs i n c = some n (λ j. r i j and eqb (getD cs j 0) c)
 
 pub record Marked (r : ℕ → ℕ → Bool) (cs : List ℕ) (i n : ℕ) (u : List ℕ) : Type 0 where
-  pub long : length u ≡ 2048
-  pub mark : (c : ℕ) → c < 2048 → getD u c 0 ≡ cond (takenTo r cs i n c) 1 0
+  pub long : length u ≡ mostCells
+  pub mark : (c : ℕ) → c < mostCells → getD u c 0 ≡ cond (takenTo r cs i n c) 1 0
 
 -- before the first cell nothing is marked
-pub mark-none : (r : ℕ → ℕ → Bool) (cs : List ℕ) (i : ℕ) → Marked r cs i 0 (replicate 2048 0)
+pub mark-none : (r : ℕ → ℕ → Bool) (cs : List ℕ) (i : ℕ) → Marked r cs i 0 (replicate mostCells 0)
 unfolding takenTo
 mark-none r cs i =
     record {
-      long = length-replicate {A = ℕ} 2048 0;
-      mark = λ c b. getD-replicate 2048 c 0 0 b ∙ ap (λ (t : Bool). cond t 1 0) (sym (some-start (λ j. r i j and eqb (getD cs j 0) c)));
+      long = length-replicate {A = ℕ} mostCells 0;
+      mark = λ c b. getD-replicate mostCells c 0 0 b ∙ ap (λ (t : Bool). cond t 1 0) (sym (some-start (λ j. r i j and eqb (getD cs j 0) c)));
     }
 
 -- the first colour without a mark is the smallest that is not taken
-pub marks-smallest : {r : ℕ → ℕ → Bool} {cs u : List ℕ} {i : ℕ} → i ≤ 2048 → Marked r cs i i u → least i (λ k. eqb (getD u k 0) 0) ≡ smallest r cs i
+pub marks-smallest : {r : ℕ → ℕ → Bool} {cs u : List ℕ} {i : ℕ} → i ≤ mostCells → Marked r cs i i u → least i (λ k. eqb (getD u k 0) 0) ≡ smallest r cs i
 unfolding smallest taken takenTo
 marks-smallest {r} {cs} {u} {i} b h =
     least-ext i (λ k. eqb (getD u k 0) 0) (λ k. not (taken r cs i k)) (λ k l. rw (h .mark k (omega arith)) (zero-not (taken r cs i k)))
@@ -136,12 +137,12 @@ module _ {r : ℕ → ℕ → Bool} {cs : List ℕ} {i j : ℕ} {u : List ℕ} (
   pub mark-yes : (a : ℕ) → r i j ≡ true → a ≡ getD cs j 0 → Marked r cs i (j + 1) (set u a 1)
   mark-yes a f q = record { long = length-set u a 1 ∙ h .long; mark = λ c b. ⊎-elim (here c b) (other c b) (eq-or-ne c a) }
     where
-      here : (c : ℕ) → c < 2048 → c ≡ a → getD (set u a 1) c 0 ≡ cond (takenTo r cs i (j + 1) c) 1 0
+      here : (c : ℕ) → c < mostCells → c ≡ a → getD (set u a 1) c 0 ≡ cond (takenTo r cs i (j + 1) c) 1 0
       here c b p =
           let t : takenTo r cs i (j + 1) c ≡ true = more c ∙ or-right (takenTo r cs i j c) (r i j and eqb (getD cs j 0) c) (and-both (r i j) (eqb (getD cs j 0) c) f (eq-eqb (getD cs j 0) c (sym (p ∙ q)))) in
           rw t (ap (λ (n : ℕ). getD (set u a 1) n 0) p ∙ getD-set-same u a 1 0 (omega (arith, h .long)))
 
-      other : (c : ℕ) → c < 2048 → (c ≡ a → ⊥) → getD (set u a 1) c 0 ≡ cond (takenTo r cs i (j + 1) c) 1 0
+      other : (c : ℕ) → c < mostCells → (c ≡ a → ⊥) → getD (set u a 1) c 0 ≡ cond (takenTo r cs i (j + 1) c) 1 0
       other c b p =
           rw (same c (and-no-right (r i j) (eqb (getD cs j 0) c) (ne-eqb (getD cs j 0) c (λ z. p (sym (q ∙ z))))))
           (getD-set-other u a c 1 0 p ∙ h .mark c b)
@@ -152,12 +153,12 @@ module _ {r : ℕ → ℕ → Bool} {cs : List ℕ} {i j : ℕ} {u : List ℕ} (
 pub record Earlier (list colours : List ℕ) (i : ℕ) : Type 0 where
   pub cell : 3 * i + 3 ≤ length list
   pub place : i < length colours
-  pub below : i < 2048
-  pub low : (j : ℕ) → j < i → getD colours j 0 < 2048
+  pub below : i < mostCells
+  pub low : (j : ℕ) → j < i → getD colours j 0 < mostCells
 
 -- what colouring by one list asks
 pub record Listed (C : ℕ) (list colours : List ℕ) : Type 0 where
-  pub cells : C ≤ 2048
+  pub cells : C ≤ mostCells
   pub entities : length list ≡ 3 * C
   pub places : length colours ≡ C
 
@@ -208,7 +209,7 @@ module _ (s : Space) (C : ℕ) where
   by-none a b = rw (le-ltb 0 (s .element .a) a, le-ltb 0 (s .element .b) b)
 
 -- what counting asks of the list that is filled
-pub colours-low : (s : Space) (C : ℕ) (cs : List ℕ) → C ≤ 2048 → cs ≡ colourList s C → (i : ℕ) → i < length cs → getD cs i 0 < 2048
+pub colours-low : (s : Space) (C : ℕ) (cs : List ℕ) → C ≤ mostCells → cs ≡ colourList s C → (i : ℕ) → i < length cs → getD cs i 0 < mostCells
 unfolding colourList
 colours-low s C cs b e i h =
     let l : i < C = omega (arith, ap length e, length-colours (sharing s) C) in
@@ -239,13 +240,6 @@ module _ {cs : List ℕ} {i n : ℕ} (h : Counted cs i n) where
 
   pub count-all : length cs ≤ i → n ≡ colourCount cs
   count-all b = rw (take-all i cs b) at (h .count)
-
--- every colour of a list is below its number of colours
-pub below-count : (cs : List ℕ) (i : ℕ) → i < length cs → getD cs i 0 < colourCount cs
-unfolding colourCount
-below-count [] i h = absurd (not-suc-le-zero h)
-below-count (c ∷ cs) zero h = le-max-left (suc c) (colourCount cs)
-below-count (c ∷ cs) (suc i) h = omega (arith, below-count cs i (le-of-suc-le-suc h), le-max-right (suc c) (colourCount cs))
 
 -- which is the least that they all are below
 pub count-le : (cs : List ℕ) (n : ℕ) → ((i : ℕ) → i < length cs → getD cs i 0 < n) → colourCount cs ≤ n

@@ -12,7 +12,7 @@ use Rattle.grid.specs.Cells.{share}
 use Rattle.function.specs.Numbering.{Space}
 use Rattle.function.specs.Colours.{sharing, colourList, colourCount}
 use Rattle.grid.specs.Facts.{share-turned}
-use Rattle.function.specs.ColoursFacts.{length-colours, colour-le, colours-differ, below-count, count-le}
+use Rattle.function.specs.ColoursFacts.{length-colours, colour-le, colours-differ, count-le}
 
 pub sharing-sym : (s : Space) (i j : ℕ) → sharing s i j ≡ true → sharing s j i ≡ true
 sharing-sym s i j h = go (ltb 0 (s .element .a)) (ltb 0 (s .element .b)) h
@@ -36,10 +36,6 @@ module _ (s : Space) (C : ℕ) where
   -- so it is below the number of cells
   pub colour-below : (i : ℕ) → i < C → getD (colourList s C) i 0 < C
   colour-below i h = omega (arith, colour-at-most i h)
-
-  -- and it is below the number of colours
-  pub colour-counted : (i : ℕ) → i < C → getD (colourList s C) i 0 < colourCount (colourList s C)
-  colour-counted i h = below-count (colourList s C) i (omega (arith, colours-long))
 
   -- there are no more colours than cells
   pub count-at-most : colourCount (colourList s C) ≤ C

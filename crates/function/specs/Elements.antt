@@ -9,6 +9,9 @@ use Rattle.function.specs.declared.Element.{Element}
 unfoldable pub dim : Element → ℕ
 dim e = 3 * e .a + 3 * e .b + e .c
 
+abbrev pub mostDim : ℕ
+mostDim = 10
+
 -- 4: both dims are from 1 to 10
 unfoldable pub dimsRight : Element → Element → Bool
-dimsRight test trial = within 1 10 (dim test) and within 1 10 (dim trial)
+dimsRight test trial = within 1 mostDim (dim test) and within 1 mostDim (dim trial)

@@ -32,6 +32,11 @@ entityOf s k = byPlace (k % 7) (entity (s .cellVertices) (k / 7) (k % 7)) (entit
 unfoldable pub dofsOn : Space → ℕ → ℕ
 dofsOn s k = byPlace (k % 7) (s .element .a) (s .element .b) (s .element .c)
 
+-- how many DOFs of a cell stand before those of its place p
+unfoldable pub dofsBefore : Element → ℕ → ℕ
+dofsBefore e zero = 0
+dofsBefore e (suc p) = dofsBefore e p + byPlace p (e .a) (e .b) (e .c)
+
 -- visits j and k meet the same entity
 unfoldable pub sameEntity : Space → ℕ → ℕ → Bool
 sameEntity s j k = eqb (dimensionOf j) (dimensionOf k) and eqb (entityOf s j) (entityOf s k)

@@ -176,7 +176,7 @@ length-mono s j (suc k) h =
     (eq-or-lt-of-le h)
 
 -- visit k is place p of cell n
-dofs-at : (s : Space) (n p k : ℕ) → p < 7 → k ≡ 7 * n + p → dofsOn s k ≡ byPlace p (s .element .a) (s .element .b) (s .element .c)
+pub dofs-at : (s : Space) (n p k : ℕ) → p < 7 → k ≡ 7 * n + p → dofsOn s k ≡ byPlace p (s .element .a) (s .element .b) (s .element .c)
 unfolding dofsOn
 dofs-at s n p k h e =
     let m : k % 7 ≡ p = omega arith in

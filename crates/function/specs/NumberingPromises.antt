@@ -17,8 +17,8 @@ use Rattle.lists.specs.Bounded.{lt-or-le, eq-or-ne}
 use Rattle.lists.specs.Stores.{each-append}
 use Rattle.grid.specs.Cells.{entity}
 use Rattle.function.specs.Elements.{dim}
-use Rattle.function.specs.Numbering.{Space, dimensionOf, entityOf, dofsOn, sameEntity, firstVisit, isFirst, free, start, upFrom, ownersOn, dofsTo, ownersTo, dofList, ownerList, dofCount}
-use Rattle.function.specs.NumberingFacts.{length-upFrom, length-ownersOn, getD-upFrom, same-dimension, same-number, same-dofs, first-le, first-meets, first-is, start-below, start-first, length-next, length-mono, length-dofs, free-le-length, length-owners, numbers-differ, starts-agree, number-used}
+use Rattle.function.specs.Numbering.{Space, dimensionOf, entityOf, dofsOn, sameEntity, firstVisit, isFirst, free, start, upFrom, ownersOn, dofsTo, ownersTo, dofsBefore, dofList, ownerList, dofCount}
+use Rattle.function.specs.NumberingFacts.{length-upFrom, length-ownersOn, getD-upFrom, same-dimension, same-number, same-dofs, first-le, first-meets, first-is, start-below, start-first, dofs-at, length-next, length-mono, length-dofs, free-le-length, length-owners, numbers-differ, starts-agree, number-used}
 
 -- ---- lengths
 
@@ -215,3 +215,36 @@ owner-at s C k i q h b c =
     let m : sameEntity s (firstVisit s k) k ≡ true = first-meets s k in
     owner-first s (7 * C) (firstVisit s k) i q (omega (arith, first-le s k)) (first-is s k) (omega (arith, same-dofs s (firstVisit s k) k m)) c
     ∙ rw (same-dimension s (firstVisit s k) k m, same-number s (firstVisit s k) k m)
+
+-- ---- by cell and place: place p of cell i is visit 7i + p
+
+length-before : (s : Space) (i p : ℕ) → p < 7 → length (dofsTo s (7 * i + p)) ≡ dim (s .element) * i + dofsBefore (s .element) p
+unfolding dofsBefore
+length-before s i zero h = ap (λ (k : ℕ). length (dofsTo s k)) (omega arith) ∙ length-dofs s i ∙ mul-comm i (dim (s .element)) ∙ omega arith
+length-before s i (suc p) h =
+    length-next s (7 * i + p) (7 * i + suc p) (omega arith) ∙ omega (arith, length-before s i p (omega arith), dofs-at s i p (7 * i + p) (omega arith) refl)
+
+module _ (s : Space) (C i p q : ℕ) (hi : i < C) (hp : p < 7) (hq : q < dofsOn s (7 * i + p)) where
+  -- DOF q there
+  place-number : getD (dofList s C) (dim (s .element) * i + dofsBefore (s .element) p + q) 0 ≡ start s (7 * i + p) + q
+  place-number =
+      ap (λ (k : ℕ). getD (dofList s C) (k + q) 0) (sym (length-before s i p hp)) ∙ dof-at s (7 * C) (7 * i + p) q (omega arith) hq
+
+  -- a place of the same entity has the same DOFs
+  pub shared-numbers : (j r : ℕ) → j < C → r < 7 → sameEntity s (7 * i + p) (7 * j + r) ≡ true
+      → getD (dofList s C) (dim (s .element) * i + dofsBefore (s .element) p + q) 0 ≡ getD (dofList s C) (dim (s .element) * j + dofsBefore (s .element) r + q) 0
+  shared-numbers j r hj hr same =
+      place-number
+      ∙ numbers-agree s (7 * i + p) (7 * j + r) q same
+      ∙ sym (ap (λ (k : ℕ). getD (dofList s C) (k + q) 0) (sym (length-before s j r hr))
+      ∙ dof-at s (7 * C) (7 * j + r) q (omega arith) (omega (arith, same-dofs s (7 * i + p) (7 * j + r) same)))
+
+  -- it is below the count
+  pub number-below : getD (dofList s C) (dim (s .element) * i + dofsBefore (s .element) p + q) 0 < dofCount s C
+  number-below = rw place-number (omega (arith, start-below s (7 * i + p) (7 * C) (omega arith)))
+
+  -- its owner record says dimension, entity and place on it
+  pub owner-names : (d : ℕ) → d < 3
+      → getD (ownerList s C) (3 * getD (dofList s C) (dim (s .element) * i + dofsBefore (s .element) p + q) 0 + d) 0
+      ≡ getD (dimensionOf (7 * i + p) ∷ entityOf s (7 * i + p) ∷ q ∷ []) d 0
+  owner-names d hd = rw place-number (owner-at s C (7 * i + p) q d (omega arith) hq hd)

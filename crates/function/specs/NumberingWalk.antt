@@ -15,7 +15,8 @@ use borrow.Author.Tests.{ltb-true, eqb-false, eq-eqb, ne-eqb}
 use Rattle.lists.specs.Bool.{true≢false, cases}
 use Rattle.lists.specs.Stores.{sets-append, sets-more, sets-all, sets-front}
 use Rattle.grid.specs.Cells.{entity}
-use Rattle.function.specs.Elements.{dim}
+use Rattle.grid.specs.Mesh.{mostCells, mostVertices, mostEdges}
+use Rattle.function.specs.Elements.{mostDim, dim}
 use Rattle.function.specs.declared.Element.{Element}
 use Rattle.function.specs.Numbering.{Space, byPlace, dimensionOf, entityOf, dofsOn, sameEntity, firstVisit, isFirst, free, start, upFrom, ownersOn, dofsTo, ownersTo, dofList, ownerList, dofCount}
 use Rattle.function.specs.NumberingFacts.{length-upFrom, length-ownersOn, same-dimension, same-number, same-of, first-le, first-meets, first-first, first-old, free-step, free-stays, start-first, start-below, length-next, length-mono, length-dofs, free-le-length, length-owners}
@@ -25,14 +26,14 @@ use Rattle.function.specs.NumberingFacts.{length-upFrom, length-ownersOn
 abbrev pub space : List ℕ → List ℕ → Element → Space
 space vertices edges element = record { cellVertices = vertices; cellEdges = edges; element = element }
 
--- lists of C cells, with numbers within the largest mesh, and at most 10 local DOFs
+-- lists of C cells, with numbers within the largest mesh, and few local DOFs
 pub record Sized (s : Space) (C : ℕ) : Type 0 where
-  pub few : C ≤ 2048
+  pub few : C ≤ mostCells
   pub vertices-long : length (s .cellVertices) ≡ 3 * C
   pub edges-long : length (s .cellEdges) ≡ 3 * C
-  pub small : dim (s .element) ≤ 10
-  pub vertices-below : (p : ℕ) → p < 3 * C → getD (s .cellVertices) p 0 < 4096
-  pub edges-below : (p : ℕ) → p < 3 * C → getD (s .cellEdges) p 0 < 6144
+  pub small : dim (s .element) ≤ mostDim
+  pub vertices-below : (p : ℕ) → p < 3 * C → getD (s .cellVertices) p 0 < mostVertices
+  pub edges-below : (p : ℕ) → p < 3 * C → getD (s .cellEdges) p 0 < mostEdges
 
 -- ---- what its parts answer
 
@@ -43,9 +44,13 @@ entityAt vertices edges k = byPlace (k % 7) (entity vertices (k / 7) (k % 7)) (e
 abbrev pub dofsAt : Element → ℕ → ℕ
 dofsAt e k = byPlace (k % 7) (e .a) (e .b) (e .c)
 
--- where the first number of entity x of dimension d is kept: 4,096 places for vertices, 6,144 for edges, 2,048 for cells
+-- all vertices, edges and cells of the largest mesh
+abbrev pub mostEntities : ℕ
+mostEntities = mostVertices + mostEdges + mostCells
+
+-- where the first number of entity x of dimension d is kept: a place for each vertex, then for each edge, then for each cell
 abbrev pub slot : ℕ → ℕ → ℕ
-slot d x = cond (eqb d 0) x (cond (eqb d 1) (4096 + x) (10240 + x))
+slot d x = cond (eqb d 0) x (cond (eqb d 1) (mostVertices + x) (mostVertices + mostEdges + x))
 
 -- What one visit does to the three lists, and the next free number after it: entity x of dimension d has m DOFs, and its first number is kept at
 -- slot i of `met` (0: not met yet, else 1 more than the number)
@@ -93,9 +98,9 @@ slotOf s k = slot (dimensionOf k) (entityOf s k)
 
 -- what visit k meets, by its dimension
 data View (s : Space) (k : ℕ) : Type 0 where
-  vertex : dimensionOf k ≡ 0 → entityOf s k < 4096 → slotOf s k ≡ entityOf s k → View s k
-  edge : dimensionOf k ≡ 1 → entityOf s k < 6144 → slotOf s k ≡ 4096 + entityOf s k → View s k
-  inside : dimensionOf k ≡ 2 → entityOf s k < 2048 → slotOf s k ≡ 10240 + entityOf s k → View s k
+  vertex : dimensionOf k ≡ 0 → entityOf s k < mostVertices → slotOf s k ≡ entityOf s k → View s k
+  edge : dimensionOf k ≡ 1 → entityOf s k < mostEdges → slotOf s k ≡ mostVertices + entityOf s k → View s k
+  inside : dimensionOf k ≡ 2 → entityOf s k < mostCells → slotOf s k ≡ mostVertices + mostEdges + entityOf s k → View s k
 
 module _ (s : Space) (C : ℕ) (h : Sized s C) where
   view : (k : ℕ) → k < 7 * C → View s k
@@ -107,10 +112,10 @@ module _ (s : Space) (C : ℕ) (h : Sized s C) where
       go false true p q = edge (rw (p, q)) (rw (p, q) (h .edges-below (3 * (k / 7) + (k % 7 - 3)) (omega (arith, ltb-true (k % 7) 6 q)))) (rw (p, q))
       go false false p q = inside (rw (p, q)) (rw (p, q) (omega (arith, h .few))) (rw (p, q))
 
-  slot-below : (k : ℕ) → k < 7 * C → slotOf s k < 12288
+  slot-below : (k : ℕ) → k < 7 * C → slotOf s k < mostEntities
   slot-below k b = go (view k b)
     where
-      go : View s k → slotOf s k < 12288
+      go : View s k → slotOf s k < mostEntities
       go (vertex d e f) = omega arith
       go (edge d e f) = omega arith
       go (inside d e f) = omega arith
@@ -139,11 +144,11 @@ pub record Walked (s : Space) (k : ℕ) (dofs₀ owners₀ met dofs owners : Lis
   pub next-is : next ≡ free s k
   pub dofs-are : dofs ≡ sets dofs₀ 0 (dofsTo s k)
   pub owners-are : owners ≡ sets owners₀ 0 (ownersTo s k)
-  pub size : length met ≡ 12288
+  pub size : length met ≡ mostEntities
   pub seen : (j : ℕ) → j < k → getD met (slot (dimensionOf j) (entityOf s j)) 0 ≡ suc (start s j)
-  pub unseen : (x : ℕ) → x < 12288 → ((j : ℕ) → j < k → slot (dimensionOf j) (entityOf s j) ≡ x → ⊥) → getD met x 0 ≡ 0
+  pub unseen : (x : ℕ) → x < mostEntities → ((j : ℕ) → j < k → slot (dimensionOf j) (entityOf s j) ≡ x → ⊥) → getD met x 0 ≡ 0
 
-pub walked-none : (s : Space) (dofs owners : List ℕ) → Walked s 0 dofs owners (replicate 12288 0) dofs owners 0 0
+pub walked-none : (s : Space) (dofs owners : List ℕ) → Walked s 0 dofs owners (replicate mostEntities 0) dofs owners 0 0
 unfolding dofsTo ownersTo free
 walked-none s dofs owners =
     record {
@@ -151,9 +156,9 @@ walked-none s dofs owners =
       next-is = refl;
       dofs-are = refl;
       owners-are = refl;
-      size = length-replicate {A = ℕ} 12288 0;
+      size = length-replicate {A = ℕ} mostEntities 0;
       seen = λ j l. absurd (not-suc-le-zero l);
-      unseen = λ x b f. getD-replicate 12288 x 0 0 b;
+      unseen = λ x b f. getD-replicate mostEntities x 0 0 b;
     }
 
 -- ---- room in the lists
@@ -162,10 +167,10 @@ module _ (s : Space) (C : ℕ) (h : Sized s C) where
   room : (k : ℕ) → k < 7 * C → length (dofsTo s k) + dofsOn s k ≤ C * dim (s .element)
   room k b = omega (arith, length-next s k (suc k) refl, length-mono s (suc k) (7 * C) b, length-dofs s C)
 
-  few-dofs : C * dim (s .element) ≤ 20480
+  few-dofs : C * dim (s .element) ≤ mostCells * mostDim
   few-dofs = le-trans (mul-le-mul (h .few) (h .small)) (omega arith)
 
-  free-few : (k : ℕ) → k ≤ 7 * C → free s k ≤ 20480
+  free-few : (k : ℕ) → k ≤ 7 * C → free s k ≤ mostCells * mostDim
   free-few k b = omega (arith, free-le-length s k, length-mono s k (7 * C) b, length-dofs s C, few-dofs)
 
 -- ---- what a visit finds at its slot
@@ -286,7 +291,7 @@ module _ (s : Space) (C k : ℕ) {dofs₀ owners₀ met dofs owners : List ℕ} 
 
   -- what `visit` asks
   pub visit-asks : length dofs ≡ C * dim (s .element) → length owners ≡ 3 * (C * dim (s .element))
-      → (i < 12288) × (at + m ≤ length dofs) × (3 * (next + m) ≤ length owners) × (next + m < 65536) × (getD met i 0 + m < 65536)
+      → (i < mostEntities) × (at + m ≤ length dofs) × (3 * (next + m) ≤ length owners) × (next + m < 65536) × (getD met i 0 + m < 65536)
   visit-asks ld lo =
       let r : at + m ≤ C * dim (s .element) = omega (arith, count-is, w .at-is, room s C h k b) in
       let f : next + m ≤ C * dim (s .element) = omega (arith, count-is, w .next-is, room s C h k b, free-le-length s k) in

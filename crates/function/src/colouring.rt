@@ -5,18 +5,20 @@ ghost use lib.ListN.{length, getD};
 ghost use lib.Dec.{eqb};
 ghost use Rattle.lists.specs.Bounded.{least};
 ghost use Rattle.grid.specs.Cells.{share};
+ghost use Rattle.grid.specs.Mesh.{mostCells};
 ghost use Rattle.function.specs.Colours.{smallest, coloursTo, colourList, colourCount, Colourable};
 ghost use Rattle.function.specs.ColoursFacts.{Earlier, Marked, Listed};
 use super::Element;
+use grid::MOST_CELLS;
 use grid::neighbours;
 use grid::wide;
 
 // For each colour, 1 where a cell before cell i that shares an entity with it has that colour, else 0.
-fn used_colours(list: &[u32], colours: &[u32], i: usize) -> [u8; 2048]
+fn used_colours(list: &[u32], colours: &[u32], i: usize) -> [u8; MOST_CELLS]
     requires { ⌜ Earlier (now list) (now colours) i ⌝ }
     ensures { λ r. ⌜ Marked (share (now (list .entry))) (now (colours .entry)) i i r ⌝ }
 {
-    let mut used = [0u8; 2048];
+    let mut used = [0u8; MOST_CELLS];
     let mut j = 0;
     while j < i {
         if neighbours(list, i, j) {
@@ -29,8 +31,8 @@ fn used_colours(list: &[u32], colours: &[u32], i: usize) -> [u8; 2048]
 }
 
 // The smallest colour below n that is not used, or n.
-fn first_unused(used: &[u8; 2048], n: usize) -> usize
-    requires { ⌜ n ≤ 2048 ⌝ }
+fn first_unused(used: &[u8; MOST_CELLS], n: usize) -> usize
+    requires { ⌜ n ≤ mostCells ⌝ }
     ensures { λ r. ⌜ r ≡ least n (λ k. eqb (getD (now (used .entry)) k 0) 0) ⌝ }
 {
     let mut k = 0;
@@ -108,7 +110,7 @@ fn larger(x: u32, y: u32) -> u32
 
 // One more than the largest colour; 0 where there is none.
 fn count_colours(colours: &[u32]) -> u32
-    requires { ⌜ ((i : ℕ) → i < length (now colours) → getD (now colours) i 0 < 2048) ⌝ }
+    requires { ⌜ ((i : ℕ) → i < length (now colours) → getD (now colours) i 0 < mostCells) ⌝ }
     ensures { λ r. ⌜ r ≡ colourCount (now (colours .entry)) ⌝ }
 {
     let mut count = 0;

@@ -9,6 +9,9 @@ mod numbering;
 pub use colouring::cell_colouring;
 pub use numbering::assign_dofs;
 
+// The most local DOFs of a cell.
+pub const MOST_DIM: usize = 10;
+
 // DOFs per vertex (a), per edge (b) and per cell (c).
 pub struct Element {
     pub a: u32,
@@ -31,5 +34,5 @@ pub fn dims_right(test: Element, trial: Element) -> bool
 {
     let m = test.dim();
     let n = trial.dim();
-    ((1 <= m) & (m <= 10)) & ((1 <= n) & (n <= 10))
+    ((1 <= m) & (m <= MOST_DIM)) & ((1 <= n) & (n <= MOST_DIM))
 }

@@ -4,10 +4,14 @@ ghost use mathlib.Core.List.{_++_};
 ghost use Prim.Native.Nat.{_+_, _*_, _<_, _≤_};
 ghost use lib.ListN.{length, getD, drop};
 ghost use lib.Seq.{sets};
+ghost use Rattle.grid.specs.Mesh.{mostCells};
 ghost use Rattle.function.specs.Elements.{dim};
 ghost use Rattle.function.specs.Numbering.{dimensionOf, upFrom, ownersOn, dofList, ownerList, dofCount};
-ghost use Rattle.function.specs.NumberingWalk.{Sized, Visited, space, entityAt, dofsAt, slot};
+ghost use Rattle.function.specs.NumberingWalk.{mostEntities, Sized, Visited, space, entityAt, dofsAt, slot};
 use super::Element;
+use grid::MOST_CELLS;
+use grid::MOST_EDGES;
+use grid::MOST_VERTICES;
 use grid::wide;
 
 // What visit k meets: the entity's dimension, its number, and how many DOFs are on it.
@@ -21,7 +25,7 @@ fn dimension_of(k: usize) -> u32
 }
 
 fn entity_of(vertices: &[u32], edges: &[u32], cells: usize, k: usize) -> u32
-    requires { ⌜ (cells ≤ 2048) × (k < 7 * cells) × (length (now vertices) ≡ 3 * cells) × (length (now edges) ≡ 3 * cells) ⌝ }
+    requires { ⌜ (cells ≤ mostCells) × (k < 7 * cells) × (length (now vertices) ≡ 3 * cells) × (length (now edges) ≡ 3 * cells) ⌝ }
     ensures { λ r. ⌜ r ≡ entityAt (now (vertices .entry)) (now (edges .entry)) k ⌝ }
 {
     let cell = k / 7;
@@ -45,7 +49,10 @@ fn dofs_on(element: Element, k: usize) -> u32
     if k % 7 < 6 { element.b } else { element.c }
 }
 
-// Where the first number of an entity is kept: 4,096 places for vertices, then 6,144 for edges, then 2,048 for cells.
+// All vertices, edges and cells of the largest mesh.
+const MOST_ENTITIES: usize = MOST_VERTICES + MOST_EDGES + MOST_CELLS;
+
+// Where the first number of an entity is kept: a place for each vertex, then for each edge, then for each cell.
 fn slot_of(dimension: u32, x: u32) -> usize
     ensures { λ r. ⌜ r ≡ slot dimension x ⌝ }
 {
@@ -53,9 +60,9 @@ fn slot_of(dimension: u32, x: u32) -> usize
         return wide(x);
     }
     if dimension == 1 {
-        4096 + wide(x)
+        MOST_VERTICES + wide(x)
     } else {
-        10240 + wide(x)
+        MOST_VERTICES + MOST_EDGES + wide(x)
     }
 }
 
@@ -90,7 +97,7 @@ fn write_owners(owners: &mut [u32], at: usize, dimension: u32, x: u32, m: u32)
 // One visit, of entity x with m DOFs, whose first number is kept at slot i (0: not met yet, else 1 more than the number). Where it is met first it
 // gets the next free numbers and its owner records are written. Returns the next free number after it.
 fn visit(
-    met: &mut [u32; 12288],
+    met: &mut [u32; MOST_ENTITIES],
     dofs: &mut [u32],
     owners: &mut [u32],
     i: usize,
@@ -100,7 +107,7 @@ fn visit(
     at: usize,
     free: u32,
 ) -> u32
-    requires { ⌜ (i < 12288) × (at + m ≤ length (now dofs)) × (3 * (free + m) ≤ length (now owners)) × (free + m < 65536) × (getD (now met) i 0 + m < 65536) ⌝ }
+    requires { ⌜ (i < mostEntities) × (at + m ≤ length (now dofs)) × (3 * (free + m) ≤ length (now owners)) × (free + m < 65536) × (getD (now met) i 0 + m < 65536) ⌝ }
     ensures { λ r. ⌜ Visited i dimension x m at free (now (met .entry)) (now (dofs .entry)) (now (owners .entry)) (now (met .exit)) (now (dofs .exit)) (now (owners .exit)) r ⌝ }
 {
     let seen = met[i];
@@ -131,7 +138,7 @@ pub fn assign_dofs(
         × (now (owners .exit) ≡ ownerList (space (now (vertices .entry)) (now (edges .entry)) element) cells
         ++ drop (3 * dofCount (space (now (vertices .entry)) (now (edges .entry)) element) cells) (now (owners .entry))) ⌝ }
 {
-    let mut met = [0u32; 12288];
+    let mut met = [0u32; MOST_ENTITIES];
     let mut free: u32 = 0;
     let mut at: usize = 0;
     let mut k: usize = 0;

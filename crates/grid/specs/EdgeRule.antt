@@ -5,20 +5,20 @@ use native.Mathlib.Omega.{arith}
 use mathlib.Core.Bool.{Bool, true, false, cond, not}
 use mathlib.Core.Path.{_≡_, refl, sym, ap, ap₂, subst, _∙_}
 use mathlib.Core.Logic.{_⊎_, inl, inr, ⊎-elim}
-use mathlib.Core.List.{List}
+use mathlib.Core.List.{List, [], _∷_}
 use lib.ListN.{length, getD, set, replicate, length-set, length-replicate, getD-replicate}
 use lib.Seq.{getD-set-same, getD-set-other}
 use lib.Dec.{ltb, eqb}
 use borrow.Author.Tests.{lt-ltb, le-ltb, eqb-true, eqb-false, eq-eqb, not-true, not-false}
-use Rattle.lists.specs.Bool.{_and_, _or_, iff, true≢false, same-test, and-left, and-right, and-both, or-cases, or-left, or-right, or-no-left, or-no-right}
+use Rattle.lists.specs.Bool.{_and_, _or_, iff, true≢false, same-test, every, every-at, and-left, and-right, and-both, or-cases, or-left, or-right, or-no-left, or-no-right}
 use Rattle.lists.specs.Bounded.{all, all-of, all-fails, some, some-not, some-which, lt-or-le, eq-or-ne}
 use Rattle.grid.specs.Cells.{firstEnd, secondEnd, sameTwo}
-use Rattle.grid.specs.Mesh.{within, allBelow, firstVertex, secondVertex, sameVertices, placesAgree, edgeRule}
-use Rattle.grid.specs.Facts.{within-high, length-before, below-at, same-two-cases, first-below, second-below}
+use Rattle.grid.specs.Mesh.{mostVertices, mostEdges, within, allBelow, firstVertex, secondVertex, sameVertices, placesAgree, edgeRule}
+use Rattle.grid.specs.Facts.{within-high, below-at, same-two-cases, first-below, second-below}
 
--- the key of two vertex numbers below 4096, in either order, below 2²⁴
+-- the key of two vertex numbers, in either order
 unfoldable pub pairKey : ℕ → ℕ → ℕ
-pairKey a b = cond (ltb a b) (4096 * a + b) (4096 * b + a)
+pairKey a b = cond (ltb a b) (mostVertices * a + b) (mostVertices * b + a)
 
 -- of the two that edge place k joins
 abbrev pub edgeKey : List ℕ → ℕ → ℕ
@@ -26,7 +26,7 @@ edgeKey vs k = pairKey (firstVertex vs k) (secondVertex vs k)
 
 -- no key: an edge that no place has had yet
 abbrev pub noKey : ℕ
-noKey = 16777216
+noKey = mostVertices * mostVertices
 
 -- one of the first n edges has the key
 abbrev pub hasKey : List ℕ → ℕ → ℕ → Bool
@@ -40,40 +40,38 @@ mayHave keys n e key = eqb (getD keys e 0) key or (eqb (getD keys e 0) noKey and
 pub record Numbered (vs es : List ℕ) (cells count : ℕ) : Type 0 where
   pub vertexPlaces : length vs ≡ 3 * cells
   pub edgePlaces : length es ≡ 3 * cells
-  pub vertexBelow : allBelow vs 4096 ≡ true
+  pub vertexBelow : allBelow vs mostVertices ≡ true
   pub edgeBelow : allBelow es count ≡ true
-  pub few : count ≤ 6144
+  pub few : count ≤ mostEdges
 
 -- check 2 has said it of the vertices, the other parts of check 3 of the edges
-pub numbered : (vs es : List ℕ) (cells count : ℕ) → length vs ≡ 3 * cells → allBelow vs 4096 ≡ true
-    → within 3 6144 count and eqb (length es) (3 * cells) and allBelow es count ≡ true → Numbered vs es cells count
+pub numbered : (vs es : List ℕ) (cells count : ℕ) → length vs ≡ 3 * cells → allBelow vs mostVertices ≡ true
+    → every (within 3 mostEdges count ∷ eqb (length es) (3 * cells) ∷ allBelow es count ∷ []) ≡ true → Numbered vs es cells count
 numbered vs es cells count long below e =
-    let range : Bool = within 3 6144 count in
-    let sized : Bool = eqb (length es) (3 * cells) in
     record {
       vertexPlaces = long;
-      edgePlaces = length-before range (length es) (3 * cells) (allBelow es count) e;
+      edgePlaces = eqb-true _ _ (every-at _ e 1);
       vertexBelow = below;
-      edgeBelow = and-right (range and sized) (allBelow es count) e;
-      few = within-high 3 6144 count (and-left range sized (and-left (range and sized) (allBelow es count) e));
+      edgeBelow = every-at _ e 2;
+      few = within-high _ _ _ (every-at _ e 0);
     }
 
 -- the keys of the edges after the first k places: each place's number has its key, each key is that of a place with the number, and places with the
 -- same key have the same number
 pub record Known (vs es keys : List ℕ) (count k : ℕ) : Type 0 where
-  pub long : length keys ≡ 6144
+  pub long : length keys ≡ mostEdges
   pub kept : (p : ℕ) → p < k → getD keys (getD es p 0) 0 ≡ edgeKey vs p
   pub source : (e : ℕ) → e < count → (getD keys e 0 ≡ noKey → ⊥) → (p : ℕ) × (p < k) × (getD es p 0 ≡ e) × (edgeKey vs p ≡ getD keys e 0)
   pub apart : (p q : ℕ) → p < k → q < k → edgeKey vs p ≡ edgeKey vs q → getD es p 0 ≡ getD es q 0
 
 -- ---- two pairs are the same two exactly when their keys are the same
 
-key-up : (a b : ℕ) → a ≤ b → pairKey a b ≡ 4096 * a + b
+key-up : (a b : ℕ) → a ≤ b → pairKey a b ≡ mostVertices * a + b
 unfolding pairKey
 key-up a b h =
-    ⊎-elim (λ l. rw (lt-ltb a b l)) (λ l. let e : 4096 * b + a ≡ 4096 * a + b = omega arith in rw (le-ltb a b l) e) (lt-or-le a b)
+    ⊎-elim (λ l. rw (lt-ltb a b l)) (λ l. let e : mostVertices * b + a ≡ mostVertices * a + b = omega arith in rw (le-ltb a b l) e) (lt-or-le a b)
 
-key-down : (a b : ℕ) → b ≤ a → pairKey a b ≡ 4096 * b + a
+key-down : (a b : ℕ) → b ≤ a → pairKey a b ≡ mostVertices * b + a
 unfolding pairKey
 key-down a b h = rw (le-ltb a b h)
 
@@ -81,20 +79,20 @@ key-turned : (a b : ℕ) → pairKey a b ≡ pairKey b a
 key-turned a b =
     ⊎-elim (λ l. key-up a b (omega arith) ∙ sym (key-down b a (omega arith))) (λ l. key-down a b l ∙ sym (key-up b a l)) (lt-or-le a b)
 
-key-below : (a b : ℕ) → a < 4096 → b < 4096 → pairKey a b < noKey
+key-below : (a b : ℕ) → a < mostVertices → b < mostVertices → pairKey a b < noKey
 key-below a b la lb =
     ⊎-elim (λ l. omega (arith, key-up a b (omega arith))) (λ l. omega (arith, key-down a b l)) (lt-or-le a b)
 
-same-key : (a b c d : ℕ) → a < 4096 → b < 4096 → c < 4096 → d < 4096 → pairKey a b ≡ pairKey c d → ((a ≡ c) × (b ≡ d)) ⊎ ((a ≡ d) × (b ≡ c))
+same-key : (a b c d : ℕ) → a < mostVertices → b < mostVertices → c < mostVertices → d < mostVertices → pairKey a b ≡ pairKey c d → ((a ≡ c) × (b ≡ d)) ⊎ ((a ≡ d) × (b ≡ c))
 same-key a b c d la lb lc ld e = go (lt-or-le a b) (lt-or-le c d)
   where
     go : (a < b) ⊎ (b ≤ a) → (c < d) ⊎ (d ≤ c) → ((a ≡ c) × (b ≡ d)) ⊎ ((a ≡ d) × (b ≡ c))
-    go (inl x) (inl y) = let s : 4096 * a + b ≡ 4096 * c + d = sym (key-up a b (omega arith)) ∙ e ∙ key-up c d (omega arith) in inl (omega arith, omega arith)
-    go (inl x) (inr y) = let s : 4096 * a + b ≡ 4096 * d + c = sym (key-up a b (omega arith)) ∙ e ∙ key-down c d y in inr (omega arith, omega arith)
-    go (inr x) (inl y) = let s : 4096 * b + a ≡ 4096 * c + d = sym (key-down a b x) ∙ e ∙ key-up c d (omega arith) in inr (omega arith, omega arith)
-    go (inr x) (inr y) = let s : 4096 * b + a ≡ 4096 * d + c = sym (key-down a b x) ∙ e ∙ key-down c d y in inl (omega arith, omega arith)
+    go (inl x) (inl y) = let s : mostVertices * a + b ≡ mostVertices * c + d = sym (key-up a b (omega arith)) ∙ e ∙ key-up c d (omega arith) in inl (omega arith, omega arith)
+    go (inl x) (inr y) = let s : mostVertices * a + b ≡ mostVertices * d + c = sym (key-up a b (omega arith)) ∙ e ∙ key-down c d y in inr (omega arith, omega arith)
+    go (inr x) (inl y) = let s : mostVertices * b + a ≡ mostVertices * c + d = sym (key-down a b x) ∙ e ∙ key-up c d (omega arith) in inr (omega arith, omega arith)
+    go (inr x) (inr y) = let s : mostVertices * b + a ≡ mostVertices * d + c = sym (key-down a b x) ∙ e ∙ key-down c d y in inl (omega arith, omega arith)
 
-same-two-keys : (a b c d : ℕ) → a < 4096 → b < 4096 → c < 4096 → d < 4096 → sameTwo a b c d ≡ eqb (pairKey a b) (pairKey c d)
+same-two-keys : (a b c d : ℕ) → a < mostVertices → b < mostVertices → c < mostVertices → d < mostVertices → sameTwo a b c d ≡ eqb (pairKey a b) (pairKey c d)
 unfolding sameTwo
 same-two-keys a b c d la lb lc ld = same-test (sameTwo a b c d) (eqb (pairKey a b) (pairKey c d)) there back
   where
@@ -132,11 +130,11 @@ and-rest false b p q = absurd (true≢false (sym p))
 -- ---- the rule by keys
 
 module _ (vs es : List ℕ) (cells count : ℕ) (h : Numbered vs es cells count) where
-  first-under : (p : ℕ) → p < 3 * cells → firstVertex vs p < 4096
-  first-under p l = below-at vs 4096 (h .vertexBelow) (3 * (p / 3) + firstEnd (p % 3)) (omega (arith, h .vertexPlaces, first-below (p % 3)))
+  first-under : (p : ℕ) → p < 3 * cells → firstVertex vs p < mostVertices
+  first-under p l = below-at vs mostVertices (h .vertexBelow) (3 * (p / 3) + firstEnd (p % 3)) (omega (arith, h .vertexPlaces, first-below (p % 3)))
 
-  second-under : (p : ℕ) → p < 3 * cells → secondVertex vs p < 4096
-  second-under p l = below-at vs 4096 (h .vertexBelow) (3 * (p / 3) + secondEnd (p % 3)) (omega (arith, h .vertexPlaces, second-below (p % 3)))
+  second-under : (p : ℕ) → p < 3 * cells → secondVertex vs p < mostVertices
+  second-under p l = below-at vs mostVertices (h .vertexBelow) (3 * (p / 3) + secondEnd (p % 3)) (omega (arith, h .vertexPlaces, second-below (p % 3)))
 
   a-key : (p : ℕ) → p < 3 * cells → edgeKey vs p ≡ noKey → ⊥
   a-key p l e = lt-irrefl noKey (subst (λ (x : ℕ). x < noKey) e (key-below (firstVertex vs p) (secondVertex vs p) (first-under p l) (second-under p l)))
@@ -166,12 +164,12 @@ module _ (vs es : List ℕ) (cells count : ℕ) (h : Numbered vs es cells count)
       broken p q lp lq (λ s. n (eqb-true (getD es p 0) (getD es q 0) (s ∙ eq-eqb (edgeKey vs p) (edgeKey vs q) e)))
 
   -- no place yet
-  pub known-none : Known vs es (replicate 6144 noKey) count 0
+  pub known-none : Known vs es (replicate mostEdges noKey) count 0
   known-none =
       record {
-        long = length-replicate {A = ℕ} 6144 noKey;
+        long = length-replicate {A = ℕ} mostEdges noKey;
         kept = λ p l. absurd (not-suc-le-zero l);
-        source = λ e l n. absurd (n (getD-replicate 6144 e noKey 0 (omega (arith, h .few))));
+        source = λ e l n. absurd (n (getD-replicate mostEdges e noKey 0 (omega (arith, h .few))));
         apart = λ p q l. absurd (not-suc-le-zero l);
       }
 

@@ -9,11 +9,11 @@ use mathlib.Core.List.{List, [], _∷_}
 use lib.ListN.{length, getD}
 use lib.Dec.{leb, ltb, eqb}
 use borrow.Author.Tests.{leb-true, ltb-true, lt-ltb, eqb-true, eqb-false, eq-eqb, not-true}
-use Rattle.lists.specs.Bool.{_and_, _or_, iff, iff-sides, same-test, and-left, and-right, or-cases, or-no-left, or-no-right}
-use Rattle.lists.specs.Bounded.{all, all-at, all-of, some-at, some-which, lt-or-le}
-use Rattle.lists.specs.Refusals.{check, refusal, refusal-zero}
+use Rattle.lists.specs.Bool.{_and_, _or_, iff, iff-sides, every, every-at, and-left, and-right, or-cases, or-no-left, or-no-right}
+use Rattle.lists.specs.Bounded.{all-at, all-of, some-at, some-which, lt-or-le}
+use Rattle.lists.specs.Refusals.{refusal, refusal-at}
 use Rattle.grid.specs.Cells.{entity, has, share, firstEnd, secondEnd, sameTwo}
-use Rattle.grid.specs.Mesh.{Mesh, within, allBelow, distinct, sameVertices, placesAgree, edgeRule, cellsRight, verticesRight, edgesRight, meshChecks}
+use Rattle.grid.specs.Mesh.{mostCells, mostVertices, mostEdges, Mesh, within, allBelow, distinct, sameVertices, placesAgree, edgeRule, cellsRight, verticesRight, edgesRight, meshChecks}
 
 -- ---- what a check that passes says
 
@@ -28,26 +28,16 @@ unfolding allBelow
 below-at l bound e k h = ltb-true (getD l k 0) bound (all-at (length l) (λ k. ltb (getD l k 0) bound) e k h)
 
 -- what check 2 says of the vertex numbers, whatever V is
-pub below-most : (l : List ℕ) (v : ℕ) (d : Bool) → within 3 4096 v and allBelow l v and d ≡ true → allBelow l 4096 ≡ true
+pub below-most : (l : List ℕ) (v : ℕ) (d : Bool) → every (within 3 mostVertices v ∷ allBelow l v ∷ d ∷ []) ≡ true → allBelow l mostVertices ≡ true
 unfolding allBelow
 below-most l v d e =
-    let both : within 3 4096 v and allBelow l v ≡ true = and-left (within 3 4096 v and allBelow l v) d e in
-    let few : v ≤ 4096 = within-high 3 4096 v (and-left (within 3 4096 v) (allBelow l v) both) in
-    let below : allBelow l v ≡ true = and-right (within 3 4096 v) (allBelow l v) both in
-    all-of (length l) _ (λ k lk. lt-ltb (getD l k 0) 4096 (omega (arith, below-at l v below k lk)))
-
--- the length that checks 1 and 3 read
-pub length-last : (a : Bool) (n m : ℕ) → a and eqb n m ≡ true → n ≡ m
-length-last a n m e = eqb-true n m (and-right a (eqb n m) e)
-
-pub length-before : (a : Bool) (n m : ℕ) (b : Bool) → a and eqb n m and b ≡ true → n ≡ m
-length-before a n m b e = length-last a n m (and-left (a and eqb n m) b e)
+    all-of (length l) _ (λ k lk. lt-ltb (getD l k 0) mostVertices (omega (arith, within-high 3 mostVertices v (every-at _ e 0), below-at l v (every-at _ e 1) k lk)))
 
 pub record Fine (m : Mesh) : Type 0 where
   pub one : 1 ≤ m .cells
-  pub fewCells : m .cells ≤ 2048
-  pub fewVertices : m .vertices ≤ 4096
-  pub fewEdges : m .edges ≤ 6144
+  pub fewCells : m .cells ≤ mostCells
+  pub fewVertices : m .vertices ≤ mostVertices
+  pub fewEdges : m .edges ≤ mostEdges
   pub vertexPlaces : length (m .cellVertices) ≡ 3 * m .cells
   pub edgePlaces : length (m .cellEdges) ≡ 3 * m .cells
   pub vertexBelow : (k : ℕ) → k < 3 * m .cells → getD (m .cellVertices) k 0 < m .vertices
@@ -55,60 +45,25 @@ pub record Fine (m : Mesh) : Type 0 where
   pub apart : (i : ℕ) → i < m .cells → distinct (m .cellVertices) i ≡ true
   pub rule : (k l : ℕ) → k < 3 * m .cells → l < 3 * m .cells → placesAgree (m .cellVertices) (m .cellEdges) k l ≡ true
 
--- the three checks' tests, apart
-record Tests (m : Mesh) : Type 0 where
-  cells : within 1 2048 (m .cells) ≡ true
-  vertexPlaces : length (m .cellVertices) ≡ 3 * m .cells
-  vertices : within 3 4096 (m .vertices) ≡ true
-  vertexBelow : allBelow (m .cellVertices) (m .vertices) ≡ true
-  apart : all (m .cells) (λ i. distinct (m .cellVertices) i) ≡ true
-  edges : within 3 6144 (m .edges) ≡ true
-  edgePlaces : length (m .cellEdges) ≡ 3 * m .cells
-  edgeBelow : allBelow (m .cellEdges) (m .edges) ≡ true
-  rule : edgeRule (m .cellVertices) (m .cellEdges) ≡ true
-
-tests : (m : Mesh) → cellsRight m ≡ true → verticesRight m ≡ true → edgesRight m ≡ true → Tests m
-unfolding cellsRight verticesRight edgesRight
-tests m one two three =
-    let c : Bool = within 1 2048 (m .cells) in
-    let v : Bool = within 3 4096 (m .vertices) in
-    let vb : Bool = allBelow (m .cellVertices) (m .vertices) in
-    let d : Bool = all (m .cells) (λ i. distinct (m .cellVertices) i) in
-    let e : Bool = within 3 6144 (m .edges) in
-    let s : Bool = eqb (length (m .cellEdges)) (3 * m .cells) in
-    let eb : Bool = allBelow (m .cellEdges) (m .edges) in
-    let r : Bool = edgeRule (m .cellVertices) (m .cellEdges) in
-    let sized : e and s and eb ≡ true = and-left (e and s and eb) r three in
-    record {
-      cells = and-left c (eqb (length (m .cellVertices)) (3 * m .cells)) one;
-      vertexPlaces = length-last c (length (m .cellVertices)) (3 * m .cells) one;
-      vertices = and-left v vb (and-left (v and vb) d two);
-      vertexBelow = and-right v vb (and-left (v and vb) d two);
-      apart = and-right (v and vb) d two;
-      edges = and-left e s (and-left (e and s) eb sized);
-      edgePlaces = length-before e (length (m .cellEdges)) (3 * m .cells) eb sized;
-      edgeBelow = and-right (e and s) eb sized;
-      rule = and-right (e and s and eb) r three;
-    }
-
 pub fine : (m : Mesh) → refusal (meshChecks m) ≡ 0 → Fine m
-unfolding edgeRule
+unfolding cellsRight verticesRight edgesRight edgeRule
 fine m h =
-    let one : (cellsRight m ≡ true) × (refusal (check 2 (verticesRight m) ∷ check 3 (edgesRight m) ∷ []) ≡ 0) = refusal-zero 0 (cellsRight m) _ h in
-    let two : (verticesRight m ≡ true) × (refusal (check 3 (edgesRight m) ∷ []) ≡ 0) = refusal-zero 1 (verticesRight m) _ (one .1) in
-    let three : edgesRight m ≡ true = refusal-zero 2 (edgesRight m) _ (two .1) .0 in
-    let t : Tests m = tests m (one .0) (two .0) three in
+    let cells : cellsRight m ≡ true = refusal-at (meshChecks m) h refl 0 in
+    let vertices : verticesRight m ≡ true = refusal-at (meshChecks m) h refl 1 in
+    let edges : edgesRight m ≡ true = refusal-at (meshChecks m) h refl 2 in
+    let vertexPlaces : length (m .cellVertices) ≡ 3 * m .cells = eqb-true _ _ (and-right _ _ cells) in
+    let edgePlaces : length (m .cellEdges) ≡ 3 * m .cells = eqb-true _ _ (every-at _ edges 1) in
     record {
-      one = within-low 1 2048 (m .cells) (t .cells);
-      fewCells = within-high 1 2048 (m .cells) (t .cells);
-      fewVertices = within-high 3 4096 (m .vertices) (t .vertices);
-      fewEdges = within-high 3 6144 (m .edges) (t .edges);
-      vertexPlaces = t .vertexPlaces;
-      edgePlaces = t .edgePlaces;
-      vertexBelow = λ k l. below-at (m .cellVertices) (m .vertices) (t .vertexBelow) k (omega (arith, t .vertexPlaces));
-      edgeBelow = λ k l. below-at (m .cellEdges) (m .edges) (t .edgeBelow) k (omega (arith, t .edgePlaces));
-      apart = all-at (m .cells) (λ i. distinct (m .cellVertices) i) (t .apart);
-      rule = λ k l lk ll. all-at (length (m .cellEdges)) _ (all-at (length (m .cellEdges)) _ (t .rule) k (omega (arith, t .edgePlaces))) l (omega (arith, t .edgePlaces));
+      one = within-low _ _ _ (and-left _ _ cells);
+      fewCells = within-high _ _ _ (and-left _ _ cells);
+      fewVertices = within-high _ _ _ (every-at _ vertices 0);
+      fewEdges = within-high _ _ _ (every-at _ edges 0);
+      vertexPlaces = vertexPlaces;
+      edgePlaces = edgePlaces;
+      vertexBelow = λ k l. below-at _ _ (every-at _ vertices 1) k (omega arith);
+      edgeBelow = λ k l. below-at _ _ (every-at _ edges 2) k (omega arith);
+      apart = all-at _ _ (every-at _ vertices 2);
+      rule = λ k l lk ll. all-at _ _ (all-at _ _ (every-at _ edges 3) k (omega arith)) l (omega arith);
     }
 
 -- ---- the three vertices of a cell differ, and so do its three edges
@@ -238,9 +193,3 @@ pub share-turned : (l : List ℕ) (i j : ℕ) → share l i j ≡ true → share
 share-turned l i j h =
     let w : (x : ℕ) × (has l i x ≡ true) × (has l j x ≡ true) = share-which l i j h in
     share-at l j i (w .0) (w .2) (w .1)
-
-pub share-sym : (l : List ℕ) (i j : ℕ) → share l i j ≡ share l j i
-share-sym l i j = same-test (share l i j) (share l j i) (share-turned l i j) (share-turned l j i)
-
-pub share-self : (l : List ℕ) (i : ℕ) → share l i i ≡ true
-share-self l i = share-at l i i (entity l i 0) (has-at l i 0 (entity l i 0) (omega arith) refl) (has-at l i 0 (entity l i 0) (omega arith) refl)

@@ -4,10 +4,20 @@ use mathlib.Core.Bool.{Bool, not}
 use mathlib.Core.List.{List, [], _∷_}
 use lib.ListN.{length, getD}
 use lib.Dec.{leb, ltb, eqb}
-use Rattle.lists.specs.Bool.{_and_, _or_, iff}
+use Rattle.lists.specs.Bool.{_and_, _or_, every, iff}
 use Rattle.lists.specs.Bounded.{all}
 use Rattle.lists.specs.Refusals.{Check, check}
 use Rattle.grid.specs.Cells.{entity, firstEnd, secondEnd, sameTwo}
+
+-- C is 1 to 2,048, V is 3 to 4,096, E is 3 to 6,144
+abbrev pub mostCells : ℕ
+mostCells = 2048
+
+abbrev pub mostVertices : ℕ
+mostVertices = 4096
+
+abbrev pub mostEdges : ℕ
+mostEdges = 6144
 
 -- C cells, V vertices and E edges; per cell three vertex numbers and three edge numbers, one cell after the other
 pub record Mesh : Type 0 where
@@ -50,16 +60,24 @@ edgeRule vs es = all (length es) (λ k. all (length es) (λ l. placesAgree vs es
 
 -- 1: C is in its range, and the vertex list is 3C long
 unfoldable pub cellsRight : Mesh → Bool
-cellsRight m = within 1 2048 (m .cells) and eqb (length (m .cellVertices)) (3 * m .cells)
+cellsRight m = within 1 mostCells (m .cells) and eqb (length (m .cellVertices)) (3 * m .cells)
 
 -- 2: V is in its range, each vertex number is below V, and none stands twice in one cell
 unfoldable pub verticesRight : Mesh → Bool
-verticesRight m = within 3 4096 (m .vertices) and allBelow (m .cellVertices) (m .vertices) and all (m .cells) (λ i. distinct (m .cellVertices) i)
+verticesRight m =
+    every (within 3 mostVertices (m .vertices)
+    ∷ allBelow (m .cellVertices) (m .vertices)
+    ∷ all (m .cells) (λ i. distinct (m .cellVertices) i)
+    ∷ [])
 
 -- 3: E is in its range, the edge list is 3C long, each edge number is below E, and the edge rule holds
 unfoldable pub edgesRight : Mesh → Bool
 edgesRight m =
-    within 3 6144 (m .edges) and eqb (length (m .cellEdges)) (3 * m .cells) and allBelow (m .cellEdges) (m .edges) and edgeRule (m .cellVertices) (m .cellEdges)
+    every (within 3 mostEdges (m .edges)
+    ∷ eqb (length (m .cellEdges)) (3 * m .cells)
+    ∷ allBelow (m .cellEdges) (m .edges)
+    ∷ edgeRule (m .cellVertices) (m .cellEdges)
+    ∷ [])
 
 abbrev pub meshChecks : Mesh → List Check
 meshChecks m = check 1 (cellsRight m) ∷ check 2 (verticesRight m) ∷ check 3 (edgesRight m) ∷ []

@@ -1,15 +1,19 @@
 // Checks 1 to 3 of a mesh, in their order.
+use crate::MOST_CELLS;
+use crate::MOST_EDGES;
+use crate::MOST_VERTICES;
 use crate::edge_rule::keeps_edge_rule;
 use crate::is_within;
 ghost use mathlib.Core.Path.{_≡_};
 ghost use Prim.Native.Nat.{_+_, _*_, _≤_};
 ghost use mathlib.Core.Bool.{true};
+ghost use mathlib.Core.List.{[], _∷_};
 ghost use lib.ListN.{length};
 ghost use lib.Dec.{eqb};
-ghost use Rattle.lists.specs.Bool.{_and_};
+ghost use Rattle.lists.specs.Bool.{_and_, every};
 ghost use Rattle.lists.specs.Bounded.{all};
 ghost use Rattle.lists.specs.Refusals.{refusal};
-ghost use Rattle.grid.specs.Mesh.{within, allBelow, distinct, edgeRule, meshChecks};
+ghost use Rattle.grid.specs.Mesh.{mostCells, mostVertices, mostEdges, within, allBelow, distinct, edgeRule, meshChecks};
 
 // Whether each number of the list is below the bound.
 pub fn all_below(list: &[u32], bound: u32) -> bool
@@ -55,37 +59,44 @@ fn all_distinct(vertices: &[u32], cells: usize) -> bool
 
 // Check 1.
 fn cells_right(cells: u32, cell_vertices: &[u32]) -> bool
-    ensures { λ r. ⌜ r ≡ (within 1 2048 cells and eqb (length (now («cell_vertices» .entry))) (3 * cells)) ⌝ }
+    ensures { λ r. ⌜ r ≡ (within 1 mostCells cells and eqb (length (now («cell_vertices» .entry))) (3 * cells)) ⌝ }
 {
-    is_within(1, 2048, cells as u64) & (cell_vertices.len() == 3 * (cells as usize))
+    is_within(1, MOST_CELLS as u64, cells as u64) & (cell_vertices.len() == 3 * (cells as usize))
 }
 
 // Check 2, of a mesh that passes check 1.
 fn vertices_right(cells: u32, vertices: u32, cell_vertices: &[u32]) -> bool
     requires { ⌜ length (now «cell_vertices») ≡ 3 * cells ⌝ }
-    ensures { λ r. ⌜ r ≡ (within 3 4096 vertices and allBelow (now («cell_vertices» .entry)) vertices
-        and all cells (λ i. distinct (now («cell_vertices» .entry)) i)) ⌝ }
+    ensures { λ r. ⌜ r ≡ every (within 3 mostVertices vertices
+        ∷ allBelow (now («cell_vertices» .entry)) vertices
+        ∷ all cells (λ i. distinct (now («cell_vertices» .entry)) i)
+        ∷ []) ⌝ }
 {
-    is_within(3, 4096, vertices as u64)
+    is_within(3, MOST_VERTICES as u64, vertices as u64)
         & all_below(cell_vertices, vertices)
         & all_distinct(cell_vertices, cells as usize)
 }
 
 // Check 3 but for the edge rule.
 fn edges_sized(cells: u32, edges: u32, cell_edges: &[u32]) -> bool
-    ensures { λ r. ⌜ r ≡ (within 3 6144 edges and eqb (length (now («cell_edges» .entry))) (3 * cells)
-        and allBelow (now («cell_edges» .entry)) edges) ⌝ }
+    ensures { λ r. ⌜ r ≡ every (within 3 mostEdges edges
+        ∷ eqb (length (now («cell_edges» .entry))) (3 * cells)
+        ∷ allBelow (now («cell_edges» .entry)) edges
+        ∷ []) ⌝ }
 {
-    is_within(3, 6144, edges as u64)
+    is_within(3, MOST_EDGES as u64, edges as u64)
         & (cell_edges.len() == 3 * (cells as usize))
         & all_below(cell_edges, edges)
 }
 
 // Check 3, of a mesh that passes checks 1 and 2.
 fn edges_right(cells: u32, edges: u32, cell_vertices: &[u32], cell_edges: &[u32]) -> bool
-    requires { ⌜ (length (now «cell_vertices») ≡ 3 * cells) × (allBelow (now «cell_vertices») 4096 ≡ true) ⌝ }
-    ensures { λ r. ⌜ r ≡ (within 3 6144 edges and eqb (length (now («cell_edges» .entry))) (3 * cells)
-        and allBelow (now («cell_edges» .entry)) edges and edgeRule (now («cell_vertices» .entry)) (now («cell_edges» .entry))) ⌝ }
+    requires { ⌜ (length (now «cell_vertices») ≡ 3 * cells) × (allBelow (now «cell_vertices») mostVertices ≡ true) ⌝ }
+    ensures { λ r. ⌜ r ≡ every (within 3 mostEdges edges
+        ∷ eqb (length (now («cell_edges» .entry))) (3 * cells)
+        ∷ allBelow (now («cell_edges» .entry)) edges
+        ∷ edgeRule (now («cell_vertices» .entry)) (now («cell_edges» .entry))
+        ∷ []) ⌝ }
 {
     if edges_sized(cells, edges, cell_edges) {
         keeps_edge_rule(cell_vertices, cell_edges, cells as usize, edges as usize)

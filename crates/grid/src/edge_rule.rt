@@ -1,19 +1,31 @@
 // The edge rule: two edge places have the same number exactly when they join the same two vertices.
+use crate::MOST_EDGES;
+use crate::MOST_VERTICES;
 use crate::wide;
 ghost use mathlib.Core.Path.{_≡_};
 ghost use Prim.Native.Nat.{_+_, _*_, _/_, _<_, _≤_};
 ghost use mathlib.Core.Bool.{true};
 ghost use lib.ListN.{length};
 ghost use Rattle.grid.specs.Cells.{firstEnd, secondEnd};
-ghost use Rattle.grid.specs.Mesh.{allBelow, edgeRule};
+ghost use Rattle.grid.specs.Mesh.{mostVertices, mostEdges, allBelow, edgeRule};
 ghost use Rattle.grid.specs.EdgeRule.{pairKey, edgeKey, hasKey, mayHave, Numbered};
 
-// The key of two vertices: a number below 2²⁴, the same in either order, and another for any other two.
+// The key of two vertices is the smaller times this, plus the other.
+const KEY_STEP: u32 = MOST_VERTICES as u32;
+
+// Above every key.
+const NO_KEY: u32 = KEY_STEP * KEY_STEP;
+
+// The key of two vertices: the same in either order, and another for any other two.
 fn pair_key(a: u32, b: u32) -> u32
-    requires { ⌜ (a < 4096) × (b < 4096) ⌝ }
+    requires { ⌜ (a < mostVertices) × (b < mostVertices) ⌝ }
     ensures { λ r. ⌜ r ≡ pairKey a b ⌝ }
 {
-    if a < b { 4096 * a + b } else { 4096 * b + a }
+    if a < b {
+        KEY_STEP * a + b
+    } else {
+        KEY_STEP * b + a
+    }
 }
 
 // The first of the two local vertices that a local edge joins.
@@ -32,7 +44,7 @@ fn second_end(edge: usize) -> usize
 
 // The key of the two vertices that an edge place joins.
 fn edge_key(vertices: &[u32], place: usize) -> u32
-    requires { ⌜ (3 * (place / 3) + 3 ≤ length (now vertices)) × (allBelow (now vertices) 4096 ≡ true) ⌝ }
+    requires { ⌜ (3 * (place / 3) + 3 ≤ length (now vertices)) × (allBelow (now vertices) mostVertices ≡ true) ⌝ }
     ensures { λ r. ⌜ r ≡ edgeKey (now (vertices .entry)) place ⌝ }
 {
     let at = 3 * (place / 3);
@@ -42,8 +54,8 @@ fn edge_key(vertices: &[u32], place: usize) -> u32
 }
 
 // Whether an edge below the count has the key. With no way out before the end, it is compiled to several comparisons at a time.
-fn has_key(keys: &[u32; 6144], count: usize, key: u32) -> bool
-    requires { ⌜ count ≤ 6144 ⌝ }
+fn has_key(keys: &[u32; MOST_EDGES], count: usize, key: u32) -> bool
+    requires { ⌜ count ≤ mostEdges ⌝ }
     ensures { λ r. ⌜ r ≡ hasKey (now (keys .entry)) count key ⌝ }
 {
     let mut found = false;
@@ -56,26 +68,25 @@ fn has_key(keys: &[u32; 6144], count: usize, key: u32) -> bool
 }
 
 // Whether an edge may have the key: it has it already, or it has none and no other edge has this one.
-fn may_have(keys: &[u32; 6144], count: usize, edge: usize, key: u32) -> bool
-    requires { ⌜ (count ≤ 6144) × (edge < count) ⌝ }
+fn may_have(keys: &[u32; MOST_EDGES], count: usize, edge: usize, key: u32) -> bool
+    requires { ⌜ (count ≤ mostEdges) × (edge < count) ⌝ }
     ensures { λ r. ⌜ r ≡ mayHave (now (keys .entry)) count edge key ⌝ }
 {
     let known = keys[edge];
     if known == key {
         true
     } else {
-        (known == 16777216) & !has_key(keys, count, key)
+        (known == NO_KEY) & !has_key(keys, count, key)
     }
 }
 
-// Whether each edge, of so many, has one key at all its places, and no two edges have the same. An edge that no place passed has is marked with 2²⁴, which is
-// no key.
+// Whether each edge, of so many, has one key at all its places, and no two edges have the same. An edge that no place passed has is marked with NO_KEY.
 pub(crate) fn keeps_edge_rule(vertices: &[u32], edges: &[u32], cells: usize, count: usize) -> bool
     requires { ⌜ Numbered (now vertices) (now edges) cells count ⌝ }
     ensures { λ r. ⌜ r ≡ edgeRule (now (vertices .entry)) (now (edges .entry)) ⌝ }
 {
     let places = 3 * cells;
-    let mut keys = [16777216u32; 6144];
+    let mut keys = [NO_KEY; MOST_EDGES];
     let mut k = 0;
     while k < places {
         let edge = wide(edges[k]);

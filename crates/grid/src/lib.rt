@@ -10,6 +10,13 @@ ghost use lib.ListN.{length};
 ghost use Rattle.grid.specs.Cells.{has, share};
 ghost use Rattle.grid.specs.Mesh.{within};
 
+// The most cells, vertices and edges of a mesh.
+pub const MOST_CELLS: usize = 2048;
+
+pub const MOST_VERTICES: usize = 4096;
+
+pub const MOST_EDGES: usize = 6144;
+
 // A u32 as an index: asks no proof that the number fits where it is called.
 pub fn wide(x: u32) -> usize
     ensures { λ r. ⌜ r ≡ x ⌝ }

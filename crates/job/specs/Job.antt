@@ -5,7 +5,7 @@ use mathlib.Core.Bool.{Bool, not}
 use mathlib.Core.List.{List, [], _∷_, _++_, map}
 use lib.ListN.{length, getD, take, drop}
 use lib.Dec.{leb, eqb}
-use Rattle.lists.specs.Bool.{_and_, _or_}
+use Rattle.lists.specs.Bool.{_or_, every}
 use Rattle.lists.specs.Range.{range}
 use Rattle.lists.specs.Refusals.{Check, check, refusal}
 use Rattle.function.specs.declared.Element.{Element}
@@ -60,11 +60,19 @@ jobEdges s = twos s (19 + 6 * cellCount s) (3 * cellCount s)
 -- 12: the job is neither cut short nor longer than it says, version is 1, and the length is 15 + 12C. (The fields before the lists are bytes 0 to 18.)
 unfoldable pub jobRight : List ℕ → Bool
 jobRight s =
-    leb 19 (length s) and eqb (length s) (4 + restLength s) and eqb (version s) 1 and eqb (restLength s) (15 + 12 * cellCount s)
+    every (leb 19 (length s)
+    ∷ eqb (length s) (4 + restLength s)
+    ∷ eqb (version s) 1
+    ∷ eqb (restLength s) (15 + 12 * cellCount s)
+    ∷ [])
 
--- 13: at most 64 cells, where the job is limited to them
+-- the most cells of a job of `worklist`
+abbrev pub mostWorklistCells : ℕ
+mostWorklistCells = 64
+
+-- 13: at most so many cells, where the job is limited to them
 unfoldable pub jobSmall : List ℕ → Bool → Bool
-jobSmall s limited = leb (cellCount s) 64 or not limited
+jobSmall s limited = leb (cellCount s) mostWorklistCells or not limited
 
 abbrev pub jobChecks : List ℕ → Bool → List Check
 jobChecks s limited = check 12 (jobRight s) ∷ check 13 (jobSmall s limited) ∷ []
@@ -82,10 +90,14 @@ readAnswer (suc k) n = Refused (suc k)
 unfoldable pub readJob : List ℕ → Bool → JobRead
 readJob s limited = readAnswer (jobRefusal s limited) (jobNumbers s)
 
--- the paper's number of an answer: 0 where the job is read
+-- for each case of the enum: the paper's number, 0 where the job is read, and the values, all 0 where it is refused
 abbrev pub readNumber : JobRead → ℕ
 readNumber (Whole n) = 0
 readNumber (Refused n) = n
+
+abbrev pub readValues : JobRead → JobNumbers
+readValues (Whole n) = n
+readValues (Refused n) = jobNumbers []
 
 -- numbers written at the front of a list, as far as it has room; the rest of a longer list stays
 unfoldable pub front : List ℕ → List ℕ → List ℕ

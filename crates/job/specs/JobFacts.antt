@@ -10,16 +10,16 @@ use lib.ListN.{length, set, take, drop, length-map, drop-of-length-le}
 use lib.Seq.{length-take-le, take-all, take-at, take-append-le}
 use lib.Dec.{leb, ltb}
 use borrow.Author.Tests.{leb-true, ltb-true, ltb-false, eqb-true, le-leb, lt-leb}
-use Rattle.lists.specs.Bool.{_or_, and-left, and-right, or-left, or-right, or-none, true≢false}
+use Rattle.lists.specs.Bool.{_or_, every-at, or-left, or-right, or-none, true≢false}
 use Rattle.lists.specs.Bounded.{lt-or-le}
 use Rattle.lists.specs.Range.{range, length-range}
 use Rattle.lists.specs.Stores.{sets-all}
 use Rattle.lists.specs.Writes.{Stores, stores-turn, stores-done}
-use Rattle.lists.specs.Refusals.{refusal-zero, refusal-none, refusal-fails, refusal-passes}
+use Rattle.lists.specs.Refusals.{refusal-at, answers, accepted, refused, _then_}
 use Rattle.job.specs.declared.JobNumbers.{JobNumbers}
 use Rattle.job.specs.declared.JobRead.{JobRead}
 use Rattle.job.specs.declared.JobRead.the-variants.{Whole, Refused}
-use Rattle.job.specs.Job.{two, twos, restLength, cellCount, jobNumbers, jobVertices, jobEdges, jobRight, jobSmall, jobRefusal, readAnswer, readJob, front, vertexList, edgeList}
+use Rattle.job.specs.Job.{two, twos, restLength, cellCount, mostWorklistCells, jobNumbers, jobVertices, jobEdges, jobRight, jobSmall, jobRefusal, readAnswer, readJob, readNumber, readValues, front, vertexList, edgeList}
 
 -- ---- checks 12 and 13
 
@@ -31,9 +31,9 @@ pub record Long (s : List ℕ) : Type 0 where
 pub right-long : (s : List ℕ) → jobRight s ≡ true → Long s
 unfolding jobRight
 right-long s h =
-    let rest : restLength s ≡ 15 + 12 * cellCount s = eqb-true _ _ (and-right _ _ h) in
-    let says : length s ≡ 4 + restLength s = eqb-true _ _ (and-right _ _ (and-left _ _ (and-left _ _ h))) in
-    record { fields = leb-true _ _ (and-left _ _ (and-left _ _ (and-left _ _ h))); long = omega arith }
+    let rest : restLength s ≡ 15 + 12 * cellCount s = eqb-true _ _ (every-at _ h 3) in
+    let says : length s ≡ 4 + restLength s = eqb-true _ _ (every-at _ h 1) in
+    record { fields = leb-true _ _ (every-at _ h 0); long = omega arith }
 
 both : (a b : Bool) → a && b ≡ true → (a ≡ true) × (b ≡ true)
 both true b e = (refl, e)
@@ -43,27 +43,27 @@ module _ (s : List ℕ) (limited : Bool) where
   -- the code's three ways out
   pub refusal-12 : jobRight s ≡ false → 12 ≡ jobRefusal s limited
   unfolding jobRefusal
-  refusal-12 e = sym (refusal-fails 12 _ _ e)
+  refusal-12 e = answers (refused e)
 
-  pub refusal-13 : jobRight s ≡ true → {C : ℕ} → C ≡ cellCount s → limited && ltb 64 C ≡ true → 13 ≡ jobRefusal s limited
+  pub refusal-13 : jobRight s ≡ true → {C : ℕ} → C ≡ cellCount s → limited && ltb mostWorklistCells C ≡ true → 13 ≡ jobRefusal s limited
   unfolding jobRefusal jobSmall
   refusal-13 e {C} c h =
-      let l = both limited (ltb 64 C) h in
-      let many : 64 < cellCount s = rw c at (ltb-true 64 C (l .1)) in
-      sym (refusal-passes 12 _ _ e ∙ refusal-fails 13 _ _ (or-none _ _ (lt-leb _ _ many) (ap not (l .0))))
+      let l = both limited (ltb mostWorklistCells C) h in
+      let many : mostWorklistCells < cellCount s = rw c at (ltb-true mostWorklistCells C (l .1)) in
+      answers (e then refused (or-none _ _ (lt-leb _ _ many) (ap not (l .0))))
 
-  pub refusal-0 : jobRight s ≡ true → {C : ℕ} → C ≡ cellCount s → limited && ltb 64 C ≡ false → 0 ≡ jobRefusal s limited
+  pub refusal-0 : jobRight s ≡ true → {C : ℕ} → C ≡ cellCount s → limited && ltb mostWorklistCells C ≡ false → 0 ≡ jobRefusal s limited
   unfolding jobRefusal jobSmall
-  refusal-0 e {C} c h = sym (refusal-passes 12 _ _ e ∙ refusal-passes 13 _ _ (passes limited (rw c at h)) ∙ refusal-none)
+  refusal-0 e {C} c h = answers (e then passes limited (rw c at h) then accepted)
     where
-      passes : (b : Bool) → b && ltb 64 (cellCount s) ≡ false → leb (cellCount s) 64 or not b ≡ true
-      passes true k = let few : cellCount s ≤ 64 = ltb-false 64 (cellCount s) k in or-left _ _ (le-leb _ _ few)
+      passes : (b : Bool) → b && ltb mostWorklistCells (cellCount s) ≡ false → leb (cellCount s) mostWorklistCells or not b ≡ true
+      passes true k = let few : cellCount s ≤ mostWorklistCells = ltb-false mostWorklistCells (cellCount s) k in or-left _ _ (le-leb _ _ few)
       passes false k = or-right _ _ refl
 
   -- no refusal: the job is long enough
   pub passed-long : jobRefusal s limited ≡ 0 → Long s
   unfolding jobRefusal
-  passed-long e = right-long s (refusal-zero 11 _ _ e .0)
+  passed-long e = right-long s (refusal-at _ e refl 0)
 
 -- ---- numbers of 2 bytes, one after the other
 
@@ -132,6 +132,20 @@ module _ (s : List ℕ) (limited : Bool) where
       let edges = rw ec at (rw at at ee) in
       (rw (e, en), (rw e vertices, rw e edges))
 
+-- ---- the number and the values of the answer
+
+pub read-number : (s : List ℕ) (limited : Bool) → readNumber (readJob s limited) ≡ jobRefusal s limited
+unfolding readJob
+read-number s limited = go (jobRefusal s limited)
+  where
+    go : (v : ℕ) → readNumber (readAnswer v (jobNumbers s)) ≡ v
+    go zero = refl
+    go (suc v) = refl
+
+pub read-values : (s : List ℕ) (limited : Bool) → jobRefusal s limited ≡ 0 → readValues (readJob s limited) ≡ jobNumbers s
+unfolding readJob
+read-values s limited e = rw e
+
 -- ---- how a caller takes the answer apart
 
 answer-whole : (v : ℕ) (m n : JobNumbers) → readAnswer v m ≡ Whole n → (v ≡ 0) × (n ≡ m)
@@ -151,10 +165,10 @@ module _ (s : List ℕ) (limited : Bool) {r : JobRead} (answers : r ≡ readJob 
   unfolding readJob
   read-refusal {v} e = answer-refused (jobRefusal s limited) v (jobNumbers s) (sym answers ∙ e)
 
--- at most 64 cells
-pub limited-small : (s : List ℕ) → jobRefusal s true ≡ 0 → cellCount s ≤ 64
+-- few cells
+pub limited-small : (s : List ℕ) → jobRefusal s true ≡ 0 → cellCount s ≤ mostWorklistCells
 unfolding jobRefusal jobSmall _or_
-limited-small s e = leb-true _ _ (small (leb (cellCount s) 64) (refusal-zero 12 _ _ (refusal-zero 11 _ _ e .1) .0))
+limited-small s e = leb-true _ _ (small (leb (cellCount s) mostWorklistCells) (refusal-at _ e refl 1))
   where
     small : (b : Bool) → b or false ≡ true → b ≡ true
     small true e = refl

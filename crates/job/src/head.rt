@@ -1,5 +1,6 @@
 // The fields of the job format, big-endian, and what the first 7 bytes of a job decide.
 use crate::HeadRead;
+use crate::MOST_WORKLIST_CELLS;
 use grid::wide;
 ghost use mathlib.Core.Path.{_≡_};
 ghost use Prim.Native.Nat.{_+_, _<_};
@@ -70,7 +71,7 @@ pub fn size_refusal(cells: u32, bytes: usize) -> u32
     if bytes != 19 + 12 * wide(cells) {
         return 12;
     }
-    if 64 < cells {
+    if MOST_WORKLIST_CELLS < cells {
         return 13;
     }
     0

@@ -7,6 +7,9 @@ pub use head::read_head;
 pub use head::size_refusal;
 pub use reading::read_job;
 
+// The most cells of a job of `worklist`.
+pub const MOST_WORKLIST_CELLS: u32 = 64;
+
 // The numbers of a job that stand before its lists: C, V, E, the two elements and the batch size.
 pub struct JobNumbers {
     pub cells: u32,

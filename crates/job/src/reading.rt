@@ -1,6 +1,7 @@
 // Reads a job: checks 12 and 13, the numbers and the two lists.
 use crate::JobNumbers;
 use crate::JobRead;
+use crate::MOST_WORKLIST_CELLS;
 use crate::head::byte_at;
 use crate::head::head_right;
 use crate::head::two_at;
@@ -28,7 +29,7 @@ fn job_refusal(bytes: &[u8], limited: bool) -> u32
     if !job_right(bytes) {
         return 12;
     }
-    if limited & (64 < two_at(bytes, 5)) {
+    if limited & (MOST_WORKLIST_CELLS < two_at(bytes, 5)) {
         return 13;
     }
     0
@@ -89,7 +90,7 @@ fn read_front(bytes: &[u8], at: usize, n: usize, list: &mut [u32])
 }
 
 // Reads a job: its numbers, with its vertices and edges at the front of the two lists, as far as these have room; or 12; or, where it is
-// limited to the 64 cells of `worklist`, 13. A refusal writes nothing.
+// limited to the cells of `worklist`, 13. A refusal writes nothing.
 pub fn read_job(
     bytes: &[u8],
     limited: bool,

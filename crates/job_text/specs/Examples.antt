@@ -6,13 +6,13 @@ use lib.ListN.{length, take, replicate}
 use Rattle.lists.specs.Examples.{Example, example, Holds}
 use Rattle.grid.specs.Mesh.{Mesh}
 use Rattle.grid.specs.Examples.{M, M7-turned, M7-twice}
-use Rattle.boundary_assemblers.specs.Examples.{opened-boundary-assemblers}
+use Rattle.plans.specs.Examples.{opened-plans}
 use Rattle.job.specs.Examples.{opened-job}
 use Rattle.job_text.specs.Text.{digits, lineOf, refusedLine, jobPlanning, worklistRefusal, worklist}
 
 -- opens the definitions of this crate and of those below it
 unfoldable pub opened-job-text : Unit {0}
-unfolding opened-boundary-assemblers opened-job digits lineOf refusedLine jobPlanning worklistRefusal worklist
+unfolding opened-plans opened-job digits lineOf refusedLine jobPlanning worklistRefusal worklist
 opened-job-text = tt
 
 -- a number as 2 bytes

@@ -3,7 +3,8 @@ use Prim.Native.Nat.{ℕ, _+_, _*_, _/_}
 use mathlib.Core.List.{List, [], _∷_, flatMap}
 use lib.ListN.{length, getD}
 use Rattle.lists.specs.Range.{range}
-use Rattle.cell_pairs.specs.WorkList.{Rec, rec}
+use Rattle.work_records.specs.declared.WorkRecord.{WorkRecord}
+use Rattle.work_records.specs.Records.{rec}
 use Rattle.job_text.specs.Text.{lineOf}
 
 -- `refused `
@@ -11,7 +12,7 @@ abbrev pub refusedWord : List ℕ
 refusedWord = 114 ∷ 101 ∷ 102 ∷ 117 ∷ 115 ∷ 101 ∷ 100 ∷ 32 ∷ []
 
 -- record k of a list of numbers
-abbrev pub recordOf : List ℕ → ℕ → Rec
+abbrev pub recordOf : List ℕ → ℕ → WorkRecord
 recordOf work k = rec (getD work (3 * k) 0) (getD work (3 * k + 1) 0) (getD work (3 * k + 2) 0)
 
 -- the lines of its records

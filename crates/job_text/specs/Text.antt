@@ -5,10 +5,10 @@ use mathlib.Core.Bool.{true, cond}
 use mathlib.Core.List.{List, [], _∷_, _++_, flatMap}
 use lib.Dec.{ltb}
 use Rattle.lists.specs.Refusals.{refusal}
-use Rattle.cell_pairs.specs.WorkList.{Rec}
+use Rattle.work_records.specs.declared.WorkRecord.{WorkRecord}
 use Rattle.integrands.specs.declared.Integrand.{Integrand}
 use Rattle.integrands.specs.declared.Term.the-variants.{Bare}
-use Rattle.boundary_assemblers.specs.Planning.{Planning, planChecks, listsFor, workRecords}
+use Rattle.plans.specs.Planning.{Planning, planChecks, listsFor, workRecords}
 use Rattle.job.specs.declared.JobNumbers.{JobNumbers}
 use Rattle.job.specs.Job.{jobNumbers, jobVertices, jobEdges, jobChecks}
 
@@ -22,7 +22,7 @@ abbrev pub decimal : ℕ → List ℕ
 decimal n = digits 10 n
 
 -- a blank is 32, the end of a line 10
-unfoldable pub lineOf : Rec → List ℕ
+unfoldable pub lineOf : WorkRecord → List ℕ
 lineOf r = decimal (r .pattern) ++ 32 ∷ decimal (r .test) ++ 32 ∷ decimal (r .trial) ++ 10 ∷ []
 
 -- `refused n`

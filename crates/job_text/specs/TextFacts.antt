@@ -14,8 +14,9 @@ use borrow.Author.Tests.{lt-ltb, le-ltb}
 use Rattle.lists.specs.Bounded.{lt-or-le}
 use Rattle.lists.specs.Range.{range, flatMap-range, flatMap-none, flatMap-below, flatMap-take, AllIn}
 use Rattle.lists.specs.Writes.{numbers, Wrote, Room, wrote-length}
-use Rattle.cell_pairs.specs.WorkList.{Rec, rec, flat}
-use Rattle.pair_counts.specs.Records.{length-flat, flat-at}
+use Rattle.work_records.specs.declared.WorkRecord.{WorkRecord}
+use Rattle.work_records.specs.Records.{rec, flat, recordAt}
+use Rattle.work_records.specs.Laws.{length-flat, flat-at}
 use Rattle.job_text.specs.Text.{digits, decimal, lineOf, refusedLine}
 use Rattle.job_text.specs.Lines.{refusedWord, recordOf, linesOf}
 
@@ -106,8 +107,8 @@ flatMap-each f xs d (suc n) h =
     ∙ ap (λ (l : List _). l ++ f (getD xs n d)) (flatMap-each f xs d n (omega arith))
     ∙ sym (flatMap-take f xs d n (omega arith)))
 
-pub lines-flat : (rs : List Rec) → linesOf (flat rs) ≡ flatMap lineOf rs
-unfolding linesOf
+pub lines-flat : (rs : List WorkRecord) → linesOf (flat rs) ≡ flatMap lineOf rs
+unfolding linesOf recordAt
 lines-flat rs =
     let n : length (flat rs) / 3 ≡ length rs = omega (arith, length-flat rs) in
     ap (λ (k : ℕ). flatMap (λ k. lineOf (recordOf (flat rs) k)) (range k)) n
@@ -116,21 +117,21 @@ lines-flat rs =
     ∙ ap (flatMap lineOf) (take-all (length rs) rs (omega arith))
   where
     one : (k : ℕ) → k < length rs → lineOf (recordOf (flat rs) k) ≡ lineOf (getD rs k (rec 0 0 0))
-    one k h = let e = flat-at rs k h in rw (e .0, e .1, e .2)
+    one k h = ap lineOf (flat-at rs k h)
 
 -- ---- how long lines are
 
 -- a record of numbers of at most three digits
-pub record Short (r : Rec) : Type 0 where
+pub record Short (r : WorkRecord) : Type 0 where
   pub pattern : r .pattern < 1000
   pub test : r .test < 1000
   pub trial : r .trial < 1000
 
-line-short : (r : Rec) → Short r → length (lineOf r) ≤ 12
+line-short : (r : WorkRecord) → Short r → length (lineOf r) ≤ 12
 line-short r h =
     omega (arith, line-length (r .pattern) (r .test) (r .trial), decimal-short (r .pattern) (h .pattern), decimal-short (r .test) (h .test), decimal-short (r .trial) (h .trial))
 
-pub lines-short : (rs : List Rec) → AllIn Short rs → length (flatMap lineOf rs) ≤ 12 * length rs
+pub lines-short : (rs : List WorkRecord) → AllIn Short rs → length (flatMap lineOf rs) ≤ 12 * length rs
 unfolding AllIn flatMap
 lines-short [] h = omega arith
 lines-short (r ∷ rs) h = rw length-append (omega (arith, line-short r (h .0), lines-short rs (h .1)))

@@ -8,22 +8,20 @@ use mathlib.Core.List.{List, _++_}
 use lib.ListN.{length, take, drop}
 use lib.Seq.{take-all, take-append-le}
 use Rattle.lists.specs.Bounded.{lt-or-le}
-use Rattle.lists.specs.Refusals.{refusal-zero, refusal-passes, refusal-first}
+use Rattle.lists.specs.Refusals.{refusal-first, refusal-rest}
 use Rattle.lists.specs.Stores.{sets-front}
 use Rattle.lists.specs.Writes.{numbers, Wrote}
-use Rattle.boundary_assemblers.specs.Planning.{listsFor, planChecks, planRefusal}
+use Rattle.plans.specs.Planning.{listsFor, planChecks, planRefusal}
 use Rattle.job.specs.declared.JobNumbers.{JobNumbers}
 use Rattle.job.specs.declared.JobRead.{JobRead}
 use Rattle.job.specs.declared.JobRead.the-variants.{Whole, Refused}
-use Rattle.job.specs.declared.HeadRead.{HeadRead}
-use Rattle.job.specs.declared.HeadRead.the-variants as head
-use Rattle.job.specs.Job.{jobChecks, jobRefusal, readJob, vertexList, edgeList}
+use Rattle.job.specs.Job.{mostWorklistCells, jobChecks, jobRefusal, readJob, vertexList, edgeList}
 use Rattle.job.specs.JobFacts.{read-numbers, read-refusal, limited-small, take-vertices, take-edges}
-use Rattle.job.specs.Head.{readHead, sizeRefusal, enoughBytes}
-use Rattle.job.specs.HeadFacts.{head-alone, head-wrong, head-size, size-refused, head-longer}
+use Rattle.job.specs.Head.{readHead, headNumber, Says, sizeRefusal, enoughBytes}
+use Rattle.job.specs.HeadFacts.{head-alone, enough-seven, head-wrong, head-size, size-refused, head-longer}
 use Rattle.job_text.specs.Text.{refusedLine, numbersPlanning, jobPlanning, worklistRefusal, textAnswer, worklist}
 use Rattle.job_text.specs.TextFacts.{refused-short}
-use Rattle.job_text.specs.PlannedText.{answerText, plannedText, rightText, Printed}
+use Rattle.job_text.specs.PlannedText.{answerText, plannedText, rightText, mostText, Printed}
 use Rattle.job_text.specs.PlannedFacts.{text-short}
 
 -- ---- what `worklist` prints
@@ -41,10 +39,7 @@ refused-worklist s {v} e h =
 -- a job that passes 12 and 13 is planned
 passes-on : (s : List ℕ) → jobRefusal s true ≡ 0 → worklistRefusal s ≡ planRefusal (jobPlanning s) (listsFor (jobPlanning s))
 unfolding jobRefusal worklistRefusal planRefusal
-passes-on s e =
-    let c₁ = refusal-zero 11 _ _ e in
-    let c₂ = refusal-zero 12 _ _ (c₁ .1) in
-    refusal-passes 12 _ _ (c₁ .0) ∙ refusal-passes 13 _ _ (c₂ .0)
+passes-on s e = refusal-rest (jobChecks s true) _ e refl
 
 planned-worklist : (s : List ℕ) → jobRefusal s true ≡ 0 → rightText (jobPlanning s) ≡ worklist s
 unfolding worklist plannedText
@@ -56,18 +51,18 @@ planned-worklist s e =
     go (suc k) = refl
 
 -- it is never longer than the array
-pub worklist-short : (s : List ℕ) → length (worklist s) ≤ 49152
+pub worklist-short : (s : List ℕ) → length (worklist s) ≤ mostText
 unfolding jobPlanning
 worklist-short s = go (jobRefusal s true) refl
   where
-    go : (v : ℕ) → jobRefusal s true ≡ v → length (worklist s) ≤ 49152
+    go : (v : ℕ) → jobRefusal s true ≡ v → length (worklist s) ≤ mostText
     go zero e = rw (planned-worklist s e) at (text-short (jobPlanning s) (listsFor (jobPlanning s)) (limited-small s e))
-    go (suc v) e = let few : length (refusedLine (suc v)) ≤ 49152 = omega (arith, refused-short (suc v)) in rw (refused-worklist s {v = suc v} (sym e) (omega arith)) at few
+    go (suc v) e = let few : length (refusedLine (suc v)) ≤ mostText = omega (arith, refused-short (suc v)) in rw (refused-worklist s {v = suc v} (sym e) (omega arith)) at few
 
 -- what reading the job answers and leaves
 module _ (s : List ℕ) {read : JobRead} (answers : read ≡ readJob s true) where
   -- the numbers: the text that they are planned to, with the fronts of the two lists
-  pub numbers-wrote : {n : JobNumbers} → read ≡ Whole n → (vs es : List ℕ) → 192 ≤ length vs → 192 ≤ length es → {vs′ es′ : List ℕ}
+  pub numbers-wrote : {n : JobNumbers} → read ≡ Whole n → (vs es : List ℕ) → 3 * mostWorklistCells ≤ length vs → 3 * mostWorklistCells ≤ length es → {vs′ es′ : List ℕ}
       → vs′ ≡ vertexList s true vs → es′ ≡ edgeList s true es → {xs ys : List ℕ} {r : ℕ}
       → Wrote numbers xs ys 0 r (rightText (numbersPlanning n (take (3 * n .cells) vs′) (take (3 * n .cells) es′)))
       → Wrote numbers xs ys 0 r (worklist s)
@@ -80,7 +75,7 @@ module _ (s : List ℕ) {read : JobRead} (answers : read ≡ readJob s true) whe
       let edges = take-edges s true none es (omega arith) in
       rw (planned-worklist s none) at (rw (said .1, ev, ee, vertices, edges) at w)
 
-  pub numbers-small : {n : JobNumbers} → read ≡ Whole n → n .cells ≤ 64
+  pub numbers-small : {n : JobNumbers} → read ≡ Whole n → n .cells ≤ mostWorklistCells
   numbers-small e = let said = read-numbers s true answers e in rw (said .1) (limited-small s (said .0))
 
   -- the refusal
@@ -90,42 +85,46 @@ module _ (s : List ℕ) {read : JobRead} (answers : read ≡ readJob s true) whe
 -- ---- what the first 7 bytes decide
 
 -- they are refused: so is every input that they begin
-pub head-wrong-text : (s : List ℕ) {n : ℕ} → readHead (take 7 s) ≡ head.Refused n → refusedLine n ≡ worklist s
-head-wrong-text s e = let r = head-wrong s e in refused-worklist s (r .1 true) (omega (arith, r .0))
+pub head-wrong-text : (s : List ℕ) {n : ℕ} → headNumber (readHead (take 7 s)) ≡ n → 0 < n → refusedLine n ≡ worklist s
+head-wrong-text s e h = refused-worklist s (head-wrong s e h .1 true) h
 
--- they say more than 64 cells: the number of bytes gives the text
-pub head-large-text : (s : List ℕ) {C : ℕ} → readHead (take 7 s) ≡ head.Cells C → 64 < C → refusedLine (sizeRefusal C (length s)) ≡ worklist s
-head-large-text s {C} e large = refused-worklist s (head-size s e) (size-refused C (length s) large)
+-- they say too many cells: the number of bytes gives the text
+pub head-large-text : (s : List ℕ) {C : ℕ} → Says (readHead (take 7 s)) C → mostWorklistCells < C → refusedLine (sizeRefusal C (length s)) ≡ worklist s
+head-large-text s {C} h large = refused-worklist s (head-size s h) (size-refused C (length s) large)
 
 -- they say C: one byte more than such a job has is enough, whatever follows
-pub head-enough-text : (s : List ℕ) {C : ℕ} → readHead (take 7 s) ≡ head.Cells C → worklist (take (20 + 12 * C) s) ≡ worklist s
-head-enough-text s {C} e = ⊎-elim shorter longer (lt-or-le (length s) (20 + 12 * C))
+pub head-enough-text : (s : List ℕ) {C : ℕ} → Says (readHead (take 7 s)) C → worklist (take (20 + 12 * C) s) ≡ worklist s
+head-enough-text s {C} says = ⊎-elim shorter longer (lt-or-le (length s) (20 + 12 * C))
   where
     shorter : length s < 20 + 12 * C → worklist (take (20 + 12 * C) s) ≡ worklist s
     shorter h = ap worklist (take-all (20 + 12 * C) s (omega arith))
 
     longer : 20 + 12 * C ≤ length s → worklist (take (20 + 12 * C) s) ≡ worklist s
     longer h =
-        let r = head-longer s e h true in
+        let r = head-longer s says h true in
         sym (refused-worklist (take (20 + 12 * C) s) (r .0) (omega arith)) ∙ refused-worklist s (r .1) (omega arith)
 
 -- so that what follows enough bytes changes nothing
 pub enough-text : (s rest : List ℕ) → enoughBytes (readHead s) ≤ length s → worklist (s ++ rest) ≡ worklist s
-enough-text s rest = go (readHead s) refl
+enough-text s rest long = go (headNumber (readHead s)) refl
   where
-    same : 7 ≤ length s → {h : HeadRead} → readHead s ≡ h → readHead (take 7 (s ++ rest)) ≡ h
-    same long e = ap readHead (take-append-le 7 s rest long) ∙ head-alone s ∙ e
+    first : readHead (take 7 (s ++ rest)) ≡ readHead s
+    first = ap readHead (take-append-le 7 s rest (omega (arith, enough-seven (readHead s), long))) ∙ head-alone s
 
-    go : (h : HeadRead) → readHead s ≡ h → enoughBytes h ≤ length s → worklist (s ++ rest) ≡ worklist s
-    go (head.Cells C) e long =
-        sym (head-enough-text (s ++ rest) (same (omega arith) e))
-        ∙ ap worklist (take-append-le (20 + 12 * C) s rest long)
-        ∙ head-enough-text s (head-alone s ∙ e)
-    go (head.Refused n) e long = sym (head-wrong-text (s ++ rest) (same long e)) ∙ head-wrong-text s (head-alone s ∙ e)
+    right : {C : ℕ} → Says (readHead s) C → 20 + 12 * C ≤ length s → worklist (s ++ rest) ≡ worklist s
+    right {C} says there =
+        sym (head-enough-text (s ++ rest) {C = C} (rw first says))
+        ∙ ap worklist (take-append-le (20 + 12 * C) s rest there)
+        ∙ head-enough-text s {C = C} (rw (head-alone s) says)
+
+    go : (v : ℕ) → headNumber (readHead s) ≡ v → worklist (s ++ rest) ≡ worklist s
+    go zero e = right (record { number = e; cells = refl }) (rw e at long)
+    go (suc v) e =
+        sym (head-wrong-text (s ++ rest) (ap headNumber first ∙ e) (omega arith)) ∙ head-wrong-text s (ap headNumber (head-alone s) ∙ e) (omega arith)
 
 -- ---- how the text stands in the array
 
-pub printed : {xs ys : List ℕ} {r : ℕ} {rs : List ℕ} → Wrote numbers xs ys 0 r rs → length rs ≤ 49152 → 49152 ≤ length xs → Printed xs ys r rs
+pub printed : {xs ys : List ℕ} {r : ℕ} {rs : List ℕ} → Wrote numbers xs ys 0 r rs → length rs ≤ mostText → mostText ≤ length xs → Printed xs ys r rs
 printed {xs} {ys} {r} {rs} w h long =
     let count : r ≡ length rs = omega (arith, w .cursor) in
     record {

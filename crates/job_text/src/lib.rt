@@ -2,5 +2,6 @@
 mod text;
 mod worklist;
 
+pub use worklist::MOST_TEXT;
 pub use worklist::refused_text;
 pub use worklist::worklist_text;

@@ -3,7 +3,7 @@ ghost use mathlib.Core.List.{[], _∷_, _++_};
 ghost use Prim.Native.Nat.{_+_, _*_, _≤_, _<_};
 ghost use lib.ListN.{length};
 ghost use Rattle.lists.specs.Writes.{numbers, Wrote, Room};
-ghost use Rattle.cell_pairs.specs.WorkList.{rec};
+ghost use Rattle.work_records.specs.Records.{rec};
 ghost use Rattle.job_text.specs.Text.{decimal, lineOf, refusedLine};
 ghost use Rattle.job_text.specs.Lines.{refusedWord, linesOf};
 

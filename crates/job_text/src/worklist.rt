@@ -3,21 +3,34 @@ use crate::text::put_lines;
 use crate::text::put_refused;
 use boundary_assemblers::Planned;
 use function::Element;
+use function::MOST_DIM;
 use grid::wide;
 use integrands::Integrand;
 use integrands::Term;
 use job::JobNumbers;
 use job::JobRead;
+use job::MOST_WORKLIST_CELLS;
 use job::read_job;
 use planning::plan;
 ghost use mathlib.Core.Path.{_≡_};
 ghost use Prim.Native.Nat.{_*_, _≤_, min};
 ghost use lib.ListN.{length, take};
 ghost use Rattle.lists.specs.Writes.{numbers, Wrote};
-ghost use Rattle.planning.specs.Arguments.{meshOf, planningOf, listsOf};
-ghost use Rattle.function.specs.Elements.{dim};
+ghost use Rattle.plans.specs.Planning.{meshOf, planningOf, listsOf};
+ghost use Rattle.function.specs.Elements.{mostDim, dim};
+ghost use Rattle.job.specs.Job.{mostWorklistCells};
 ghost use Rattle.job_text.specs.Text.{bareZero, numbersPlanning, worklist, refusedLine};
-ghost use Rattle.job_text.specs.PlannedText.{plannedText, rightText, Arrays, Printed};
+ghost use Rattle.job_text.specs.PlannedText.{plannedText, rightText, mostText, Arrays, Printed};
+
+// The most cells of a job, places of a DOF list, and pairs of cells.
+const CELLS: usize = MOST_WORKLIST_CELLS as usize;
+
+const DOFS: usize = CELLS * MOST_DIM;
+
+const PAIRS: usize = CELLS * CELLS;
+
+// The most bytes of the text: a line of at most 12 for each pair.
+pub const MOST_TEXT: usize = 12 * PAIRS;
 
 // Plans with one bare term of kind 0, and writes the work list's lines, or what is refused.
 fn put_planned(
@@ -38,7 +51,7 @@ fn put_planned(
     work: &mut [u32],
     text: &mut [u8],
 ) -> usize
-    requires { ⌜ (cells ≤ 64) × (49152 ≤ length (now text)) ⌝ }
+    requires { ⌜ (cells ≤ mostWorklistCells) × (mostText ≤ length (now text)) ⌝ }
     ensures { λ r. ⌜ Wrote numbers (now (text .entry)) (now (text .exit)) 0 r
         (plannedText (planningOf (meshOf cells vertices edges (now («cell_vertices» .entry)) (now («cell_edges» .entry))) test trial batch bareZero)
         (listsOf (now («test_dofs» .entry)) (now («trial_dofs» .entry)) (now («test_colours» .entry)) (now («trial_colours» .entry)) (now («test_owners» .entry)) (now («trial_owners» .entry)) (now (work .entry)))) ⌝ }
@@ -72,32 +85,32 @@ fn put_planned(
     }
 }
 
-// A dim for the length of a list: one above 10 is refused before the lists' lengths are read.
+// A dim for the length of a list: one above the most is refused before the lists' lengths are read.
 fn short_dim(element: Element) -> usize
-    ensures { λ r. ⌜ r ≡ min 10 (dim element) ⌝ }
+    ensures { λ r. ⌜ r ≡ min mostDim (dim element) ⌝ }
 {
     let d = element.dim();
-    if d < 10 { d } else { 10 }
+    if d < MOST_DIM { d } else { MOST_DIM }
 }
 
 // The length of a DOF list.
 fn dof_places(cells: u32, element: Element) -> usize
-    requires { ⌜ cells ≤ 64 ⌝ }
-    ensures { λ r. ⌜ (r ≡ cells * min 10 (dim element)) × (r ≤ 640) ⌝ }
+    requires { ⌜ cells ≤ mostWorklistCells ⌝ }
+    ensures { λ r. ⌜ (r ≡ cells * min mostDim (dim element)) × (r ≤ mostWorklistCells * mostDim) ⌝ }
 {
     wide(cells) * short_dim(element)
 }
 
 // The pairs of cells.
 fn pair_count(cells: u32) -> usize
-    requires { ⌜ cells ≤ 64 ⌝ }
-    ensures { λ r. ⌜ (r ≡ cells * cells) × (r ≤ 4096) ⌝ }
+    requires { ⌜ cells ≤ mostWorklistCells ⌝ }
+    ensures { λ r. ⌜ (r ≡ cells * cells) × (r ≤ mostWorklistCells * mostWorklistCells) ⌝ }
 {
     let c = wide(cells);
     c * c
 }
 
-// The same with lists of the right lengths, in arrays that are long enough for 64 cells.
+// The same with lists of the right lengths, in arrays that are long enough for the most cells.
 fn put_sized(
     cells: u32,
     vertices: u32,
@@ -116,7 +129,7 @@ fn put_sized(
     work: &mut [u32],
     text: &mut [u8],
 ) -> usize
-    requires { ⌜ (cells ≤ 64) × (49152 ≤ length (now text)) ⌝ }
+    requires { ⌜ (cells ≤ mostWorklistCells) × (mostText ≤ length (now text)) ⌝ }
     requires { ⌜ Arrays (now «test_dofs») (now «trial_dofs») (now «test_colours») (now «trial_colours») (now «test_owners») (now «trial_owners») (now work) ⌝ }
     ensures { λ r. ⌜ Wrote numbers (now (text .entry)) (now (text .exit)) 0 r
         (rightText (planningOf (meshOf cells vertices edges (now («cell_vertices» .entry)) (now («cell_edges» .entry))) test trial batch bareZero)) ⌝ }
@@ -159,17 +172,17 @@ fn put_mesh(
     batch: u32,
     text: &mut [u8],
 ) -> usize
-    requires { ⌜ (cells ≤ 64) × (49152 ≤ length (now text)) ⌝ }
+    requires { ⌜ (cells ≤ mostWorklistCells) × (mostText ≤ length (now text)) ⌝ }
     ensures { λ r. ⌜ Wrote numbers (now (text .entry)) (now (text .exit)) 0 r
         (rightText (planningOf (meshOf cells vertices edges (now («cell_vertices» .entry)) (now («cell_edges» .entry))) test trial batch bareZero)) ⌝ }
 {
-    let mut test_dofs = [0u32; 640];
-    let mut trial_dofs = [0u32; 640];
-    let mut test_colours = [0u32; 64];
-    let mut trial_colours = [0u32; 64];
-    let mut test_owners = [0u32; 1920];
-    let mut trial_owners = [0u32; 1920];
-    let mut work = [0u32; 12288];
+    let mut test_dofs = [0u32; DOFS];
+    let mut trial_dofs = [0u32; DOFS];
+    let mut test_colours = [0u32; CELLS];
+    let mut trial_colours = [0u32; CELLS];
+    let mut test_owners = [0u32; 3 * DOFS];
+    let mut trial_owners = [0u32; 3 * DOFS];
+    let mut work = [0u32; 3 * PAIRS];
     put_sized(
         cells,
         vertices,
@@ -192,8 +205,8 @@ fn put_mesh(
 
 // The same for the numbers of a job, whose vertices and edges stand at the front of these lists.
 fn put_numbers(job: JobNumbers, vertex_list: &[u32], edge_list: &[u32], text: &mut [u8]) -> usize
-    requires { ⌜ (job .cells ≤ 64) × (49152 ≤ length (now text)) ⌝ }
-    requires { ⌜ (192 ≤ length (now «vertex_list»)) × (192 ≤ length (now «edge_list»)) ⌝ }
+    requires { ⌜ (job .cells ≤ mostWorklistCells) × (mostText ≤ length (now text)) ⌝ }
+    requires { ⌜ (3 * mostWorklistCells ≤ length (now «vertex_list»)) × (3 * mostWorklistCells ≤ length (now «edge_list»)) ⌝ }
     ensures { λ r. ⌜ Wrote numbers (now (text .entry)) (now (text .exit)) 0 r
         (rightText (numbersPlanning job (take (3 * job .cells) (now («vertex_list» .entry))) (take (3 * job .cells) (now («edge_list» .entry))))) ⌝ }
 {
@@ -211,10 +224,10 @@ fn put_numbers(job: JobNumbers, vertex_list: &[u32], edge_list: &[u32], text: &m
     )
 }
 
-// What `worklist` prints for these bytes, by way of lists with room for 64 cells.
+// What `worklist` prints for these bytes, by way of lists with room for the most cells.
 fn put_job(bytes: &[u8], vertex_list: &mut [u32], edge_list: &mut [u32], text: &mut [u8]) -> usize
-    requires { ⌜ (192 ≤ length (now «vertex_list»)) × (192 ≤ length (now «edge_list»)) ⌝ }
-    requires { ⌜ 49152 ≤ length (now text) ⌝ }
+    requires { ⌜ (3 * mostWorklistCells ≤ length (now «vertex_list»)) × (3 * mostWorklistCells ≤ length (now «edge_list»)) ⌝ }
+    requires { ⌜ mostText ≤ length (now text) ⌝ }
     ensures { λ r. ⌜ Wrote numbers (now (text .entry)) (now (text .exit)) 0 r (worklist (now (bytes .entry))) ⌝ }
 {
     let read = read_job(bytes, true, vertex_list, edge_list);
@@ -225,17 +238,17 @@ fn put_job(bytes: &[u8], vertex_list: &mut [u32], edge_list: &mut [u32], text: &
 }
 
 // Writes `refused n`: the first r bytes of the text.
-pub fn refused_text(n: u32, text: &mut [u8; 49152]) -> usize
+pub fn refused_text(n: u32, text: &mut [u8; MOST_TEXT]) -> usize
     ensures { λ r. ⌜ Printed (now (text .entry)) (now (text .exit)) r (refusedLine n) ⌝ }
 {
     put_refused(text, 0, n)
 }
 
 // Writes what `worklist` prints for these bytes: the first r bytes of the text.
-pub fn worklist_text(bytes: &[u8], text: &mut [u8; 49152]) -> usize
+pub fn worklist_text(bytes: &[u8], text: &mut [u8; MOST_TEXT]) -> usize
     ensures { λ r. ⌜ Printed (now (text .entry)) (now (text .exit)) r (worklist (now (bytes .entry))) ⌝ }
 {
-    let mut vertex_list = [0u32; 192];
-    let mut edge_list = [0u32; 192];
+    let mut vertex_list = [0u32; 3 * CELLS];
+    let mut edge_list = [0u32; 3 * CELLS];
     put_job(bytes, &mut vertex_list, &mut edge_list, text)
 }

@@ -8,12 +8,13 @@ use lib.Ieee.{Float}
 use Rattle.lists.specs.Range.{range, length-range, flatMap-ext, flatMap-below, flatMap-places, flatMap-map, map-below, length-blocks}
 use Rattle.lists.specs.Fold.{upto, upto-keeps, upto-ext, Folded, folded-turn}
 use Rattle.lists.specs.Places.{in-row}
+use Rattle.function.specs.Elements.{mostDim}
 use Rattle.local_matrix.specs.Adding.{addAt, addLocal, localRows, localColumns, localValues}
 use Rattle.local_matrix.specs.Entries.{AddFits, ColumnFits, addRow, addColumn, addTrial}
 
 -- entry (i,j) is among the hundred, and so is (j,i)
-pub in-hundred : {m i j : ℕ} → m ≤ 10 → i < m → j < 10 → (j + m * i < 100) × (i + m * j < 100)
-in-hundred {m} {i} {j} hm hi hj = omega (arith, in-row m 10 i (omega arith), in-row m 10 j hj)
+pub in-hundred : {m i j : ℕ} → m ≤ mostDim → i < m → j < mostDim → (j + m * i < 100) × (i + m * j < 100)
+in-hundred {m} {i} {j} hm hi hj = omega (arith, in-row m mostDim i (omega arith), in-row m mostDim j hj)
 
 -- ---- the matrix
 

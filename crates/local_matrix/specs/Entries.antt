@@ -5,6 +5,7 @@ use mathlib.Core.List.{List}
 use lib.ListN.{length, getD}
 use lib.Ieee.{Float}
 use Rattle.lists.specs.Fold.{upto}
+use Rattle.function.specs.Elements.{mostDim}
 use Rattle.integrands.specs.Floats.{_!_}
 use Rattle.local_matrix.specs.Adding.{addAt}
 
@@ -17,15 +18,15 @@ pub record AddFits (matrix : List Float) (rows columns : ℕ) (testDofs trialDof
   pub size : length matrix ≡ rows * columns
   pub test : (k : ℕ) → k < length testDofs → getD testDofs k 0 < rows
   pub trial : (k : ℕ) → k < length trialDofs → getD trialDofs k 0 < columns
-  pub few : length testDofs ≤ 10
-  pub few-trial : length trialDofs ≤ 10
+  pub few : length testDofs ≤ mostDim
+  pub few-trial : length trialDofs ≤ mostDim
 
 -- the column that starts at base is within the matrix, and has the row of each test DOF
 pub record ColumnFits (matrix : List Float) (rows base : ℕ) (testDofs : List ℕ) (j : ℕ) : Type 0 where
   pub size : base + rows ≤ length matrix
   pub test : (k : ℕ) → k < length testDofs → getD testDofs k 0 < rows
-  pub few : length testDofs ≤ 10
-  pub basis : j < 10
+  pub few : length testDofs ≤ mostDim
+  pub basis : j < mostDim
 
 -- test basis i of one column, added from base on; and the whole column
 unfoldable pub addRow : (ℕ → Float) → ℕ → List ℕ → ℕ → List Float → List Float

@@ -1,5 +1,6 @@
 // A local matrix put into the dense matrix, and into entry lists. Its entry (i, j) stands at i + m·j, m test DOFs; the order is trial basis outer.
 use grid::wide;
+ghost use Rattle.function.specs.Elements.{mostDim};
 ghost use mathlib.Core.Path.{_≡_};
 ghost use mathlib.Core.List.{map};
 ghost use Prim.Native.Nat.{ℕ, _+_, _*_, _≤_, _<_};
@@ -97,7 +98,7 @@ pub fn write_columns(columns: &mut [u32], at: usize, test_dofs: &[u32], trial_do
 
 // The entries of trial basis j.
 fn write_column_values(values: &mut [f64], at: usize, m: usize, entries: &[f64; 100], j: usize)
-    requires { ⌜ (at + m ≤ length (now values)) × (m ≤ 10) × (j < 10) ⌝ }
+    requires { ⌜ (at + m ≤ length (now values)) × (m ≤ mostDim) × (j < mostDim) ⌝ }
     ensures { λ _. ⌜ now (values .exit) ≡ sets (now (values .entry)) at (map (λ (i : ℕ). entryAt (now (entries .entry)) m i j) (range m)) ⌝ }
 {
     for i in 0..m {
@@ -107,7 +108,7 @@ fn write_column_values(values: &mut [f64], at: usize, m: usize, entries: &[f64; 
 
 // The value of each entry of a local matrix with m rows and n columns, written from place at on.
 pub fn write_values(values: &mut [f64], at: usize, m: usize, n: usize, entries: &[f64; 100])
-    requires { ⌜ (at + m * n ≤ length (now values)) × (m ≤ 10) × (n ≤ 10) ⌝ }
+    requires { ⌜ (at + m * n ≤ length (now values)) × (m ≤ mostDim) × (n ≤ mostDim) ⌝ }
     ensures { λ _. ⌜ now (values .exit) ≡ sets (now (values .entry)) at (localValues (entryAt (now (entries .entry)) m) m n) ⌝ }
 {
     for j in 0..n {

@@ -1,6 +1,5 @@
--- Laws of the cells by colour and by vertex: each cell stands under one colour and under at most three vertices, and the touching pairs at a
--- vertex are pairs of its cells. Assumes nothing.
-use Prim.Native.Nat.{ℕ, zero, suc, _*_, _<_, _≤_}
+-- Laws of the cells by colour and by vertex: each cell stands under one colour, and the touching pairs at a vertex are pairs of its cells. Assumes nothing.
+use Prim.Native.Nat.{ℕ, zero, suc, _<_}
 use native.Mathlib.Nat.{not-suc-le-zero, le-of-suc-le-suc}
 use native.Mathlib.Omega.{arith}
 use mathlib.Core.Path.{_≡_, refl, sym, subst, _∙_}
@@ -10,13 +9,13 @@ use lib.ListN.{length, getD}
 use lib.Dec.{eqb}
 use borrow.Author.Tests.{eqb-true}
 use Rattle.lists.specs.Bool.{_and_, true≢false, and-left}
-use Rattle.lists.specs.Bounded.{some}
-use Rattle.lists.specs.Range.{range, filter, length-range, flatMap-ext, flatMap-nil, flatMap-below, flatMap-filter}
-use Rattle.lists.specs.Total.{total, gate, count, total-length, total-flatMap, total-filter, total-ext, total-below, total-swap, total-const, total-le, pick, at-most-one, some-count}
-use Rattle.grid.specs.Cells.{entity, has}
+use Rattle.lists.specs.Range.{range, filter, flatMap-ext, flatMap-nil, flatMap-below, flatMap-filter}
+use Rattle.lists.specs.Total.{total, gate, total-filter, total-ext, total-below, total-swap, pick}
+use Rattle.grid.specs.Cells.{has}
 use Rattle.grid.specs.Mesh.{Mesh}
 use Rattle.function.specs.Colours.{colourCount}
-use Rattle.cell_pairs.specs.Patterns.{outside, pattern, smallestShared}
+use Rattle.work_records.specs.Records.{patternCount}
+use Rattle.cell_pairs.specs.Patterns.{pattern, smallestShared}
 use Rattle.cell_pairs.specs.WorkList.{coloured, touchingPair, touchingPart}
 use Rattle.pair_counts.specs.SharedVertices.{smallest-test, smallest-trial}
 use Rattle.pair_counts.specs.CellGroups.{atVertex}
@@ -39,42 +38,6 @@ total-coloured g C cs e =
     total-ext _ (λ c. total (λ i. gate (eqb (getD cs i 0) c) (g i)) (range C)) (λ c. total-filter g (λ i. eqb (getD cs i 0) c) (range C)) (range n)
     ∙ total-swap (λ c i. gate (eqb (getD cs i 0) c) (g i)) (range n) (range C)
     ∙ total-below _ g C (λ i l. pick (getD cs i 0) n (λ _. g i) (colour-below cs i (omega arith)))
-
--- the cells of every colour, one after the other, take as many places as there are cells
-pub coloured-room : (C : ℕ) (cs : List ℕ) → length cs ≡ C → length (flatMap (coloured C cs) (range (colourCount cs))) ≡ C
-coloured-room C cs e =
-    sym (total-length (flatMap (coloured C cs) (range (colourCount cs))))
-    ∙ total-flatMap (λ _. 1) (coloured C cs) (range (colourCount cs))
-    ∙ total-coloured (λ _. 1) C cs e
-    ∙ total-length (range C)
-    ∙ length-range C
-
--- ---- by vertex
-
--- a cell has at most three vertices
-at-most-three : (vs : List ℕ) (i n : ℕ) → count (λ v. has vs i v) (range n) ≤ 3
-unfolding has
-at-most-three vs i n =
-    let e : ℕ → ℕ → ℕ = λ v p. gate (eqb (entity vs i p) v) 1 in
-    omega (
-      arith,
-      total-le (λ v. gate (some 3 (λ p. eqb (entity vs i p) v)) 1) (λ v. total (λ p. e v p) (range 3)) (λ v. some-count 3 (λ p. eqb (entity vs i p) v)) (range n),
-      total-swap e (range n) (range 3),
-      total-le (λ p. total (λ v. e v p) (range n)) (λ _. 1) (λ p. at-most-one (entity vs i p) n) (range 3),
-      total-length (range 3),
-      length-range 3,
-    )
-
--- the cells at every vertex, one after the other, take at most three places a cell
-pub vertex-room : (C n : ℕ) (vs : List ℕ) → length (flatMap (atVertex C vs) (range n)) ≤ 3 * C
-unfolding atVertex
-vertex-room C n vs =
-    let e : length (flatMap (atVertex C vs) (range n)) ≡ total (λ i. count (λ v. has vs i v) (range n)) (range C) =
-    sym (total-length (flatMap (atVertex C vs) (range n)))
-    ∙ total-flatMap (λ _. 1) (atVertex C vs) (range n)
-    ∙ total-ext _ _ (λ v. total-filter (λ _. 1) (λ i. has vs i v) (range C)) (range n)
-    ∙ total-swap (λ v i. gate (has vs i v) 1) (range n) (range C) in
-    omega (arith, e, total-le _ (λ _. 3) (λ i. at-most-three vs i n) (range C), total-const 3 (range C), length-range C)
 
 -- ---- touching pairs, by vertex
 
@@ -115,6 +78,6 @@ pub touching-by-vertex : (m : Mesh)
     → touchingPart m
     ≡ flatMap
     (λ p. flatMap (λ v. flatMap (λ i. flatMap (λ j. touchingPair m p v i j) (atVertex (m .cells) (m .cellVertices) v)) (atVertex (m .cells) (m .cellVertices) v)) (range (m .vertices)))
-    (range outside)
+    (range patternCount)
 unfolding touchingPart
-touching-by-vertex m = flatMap-ext _ _ (λ p. flatMap-below _ _ (m .vertices) (λ v l. vertex-all m p v l)) (range outside)
+touching-by-vertex m = flatMap-ext _ _ (λ p. flatMap-below _ _ (m .vertices) (λ v l. vertex-all m p v l)) (range patternCount)

@@ -11,14 +11,17 @@ use lib.ListN.{length, getD, length-append, List·getD-append}
 use lib.Seq.{getD-append-add}
 use lib.Dec.{ltb}
 use borrow.Author.Tests.{eqb-true, ltb-true, not-true}
-use Rattle.lists.specs.Bool.{_and_, _or_, true≢false, and-left, and-right, or-cases}
+use Rattle.lists.specs.Bool.{_and_, _or_, true≢false, every-at, and-right, or-cases}
 use Rattle.lists.specs.Bounded.{all, all-at, lt-or-le}
 use Rattle.lists.specs.Range.{range, length-range, all-in-at}
 use Rattle.lists.specs.Total.{gate, count, total-append, total-add, total-ext, total-length, total-const, count-split, gate-split}
 use Rattle.grid.specs.Cells.{share}
-use Rattle.grid.specs.Mesh.{Mesh, allBelow, distinct, within, cellsRight, verticesRight}
-use Rattle.cell_pairs.specs.Patterns.{outside, pattern, patternsRight}
-use Rattle.cell_pairs.specs.WorkList.{Rec, rec, distantPart, touchingPart, workList, sharingPairs, distantPairs}
+use Rattle.grid.specs.Facts.{below-at}
+use Rattle.grid.specs.Mesh.{Mesh, cellsRight, verticesRight}
+use Rattle.work_records.specs.declared.WorkRecord.{WorkRecord}
+use Rattle.work_records.specs.Records.{rec, patternCount}
+use Rattle.cell_pairs.specs.Patterns.{pattern, patternsRight}
+use Rattle.cell_pairs.specs.WorkList.{distantPart, touchingPart, workList, sharingPairs, distantPairs}
 use Rattle.pair_counts.specs.WorkRecords.{ofPair, Distant, Touching, Right}
 use Rattle.pair_counts.specs.WorkRecordsFacts.{distant-each, touching-each}
 use Rattle.pair_counts.specs.CountingFacts.{distant-total, touching-total, pair-total}
@@ -34,24 +37,22 @@ pub record Countable (m : Mesh) (B : ℕ) (ts rs : List ℕ) : Type 0 where
   -- each vertex number is below V
   pub vertices : (k : ℕ) → k < 3 * m .cells → getD (m .cellVertices) k 0 < m .vertices
   -- each pair that shares a vertex has a pattern of the list
-  pub patterns : (i j : ℕ) → i < m .cells → j < m .cells → share (m .cellVertices) i j ≡ true → pattern (m .cellVertices) i j < outside
+  pub patterns : (i j : ℕ) → i < m .cells → j < m .cells → share (m .cellVertices) i j ≡ true → pattern (m .cellVertices) i j < patternCount
 
 -- check 7 passes: the patterns are of the list
-pub patterns-known : (C : ℕ) (vs : List ℕ) → patternsRight C vs ≡ true → (i j : ℕ) → i < C → j < C → share vs i j ≡ true → pattern vs i j < outside
+pub patterns-known : (C : ℕ) (vs : List ℕ) → patternsRight C vs ≡ true → (i j : ℕ) → i < C → j < C → share vs i j ≡ true → pattern vs i j < patternCount
 unfolding patternsRight
 patterns-known C vs e i j hi hj s =
     ⊎-elim (λ n. absurd (true≢false (sym s ∙ not-true (share vs i j) n))) (λ l. ltb-true _ _ l)
-    (or-cases (not (share vs i j)) (ltb (pattern vs i j) outside)
-    (all-at C (λ j. not (share vs i j) or ltb (pattern vs i j) outside) (all-at C (λ i. all C (λ j. not (share vs i j) or ltb (pattern vs i j) outside)) e i hi) j hj))
+    (or-cases (not (share vs i j)) (ltb (pattern vs i j) patternCount)
+    (all-at C (λ j. not (share vs i j) or ltb (pattern vs i j) patternCount) (all-at C (λ i. all C (λ j. not (share vs i j) or ltb (pattern vs i j) patternCount)) e i hi) j hj))
 
 -- checks 1 and 2 pass: each vertex number is below V
 pub vertices-below : (m : Mesh) → cellsRight m ≡ true → verticesRight m ≡ true → (k : ℕ) → k < 3 * m .cells → getD (m .cellVertices) k 0 < m .vertices
-unfolding cellsRight verticesRight allBelow
+unfolding cellsRight verticesRight
 vertices-below m one two k h =
-    let vs = m .cellVertices in
-    let long : length vs ≡ 3 * m .cells = eqb-true _ _ (and-right (within 1 2048 (m .cells)) _ one) in
-    let below : allBelow vs (m .vertices) ≡ true = and-right (within 3 4096 (m .vertices)) _ (and-left _ (all (m .cells) (λ i. distinct vs i)) two) in
-    ltb-true _ _ (all-at (length vs) (λ k. ltb (getD vs k 0) (m .vertices)) below k (omega arith))
+    let long : length (m .cellVertices) ≡ 3 * m .cells = eqb-true _ _ (and-right _ _ one) in
+    below-at _ _ (every-at _ two 1) k (omega arith)
 
 -- so planning, past its checks, has all that is asked
 pub countable : (m : Mesh) (B : ℕ) (ts rs : List ℕ) → cellsRight m ≡ true → verticesRight m ≡ true → patternsRight (m .cells) (m .cellVertices) ≡ true
@@ -129,7 +130,7 @@ module _ (m : Mesh) (B : ℕ) (ts rs : List ℕ) (h : Countable m B ts rs) where
   pub record-touching : (k : ℕ) → distantPairs m ≤ k → k < m .cells * m .cells → Touching m (getD (workList m B ts rs) k (rec 0 0 0))
   unfolding workList
   record-touching k l u =
-      let far : List Rec = distantPart m B ts rs in
+      let far : List WorkRecord = distantPart m B ts rs in
       let n : ℕ = k - length far in
       let place : length far + n ≡ k = omega (arith, length-distant) in
       let inside : n < length (touchingPart m) = omega (arith, length-distant, length-touching, split m) in

@@ -14,15 +14,17 @@ use Rattle.lists.specs.Total.{total, gate, total-one, total-flatMap, total-when
 use Rattle.grid.specs.Cells.{share}
 use Rattle.grid.specs.Mesh.{Mesh}
 use Rattle.function.specs.Colours.{colourCount}
-use Rattle.cell_pairs.specs.Patterns.{outside, pattern, smallestShared}
-use Rattle.cell_pairs.specs.WorkList.{Rec, rec, coloured, batches, distantPair, distantBatch, distantColours, distantPart, touchingPair, touchingPart}
+use Rattle.work_records.specs.declared.WorkRecord.{WorkRecord}
+use Rattle.work_records.specs.Records.{rec, patternCount, distantPattern}
+use Rattle.cell_pairs.specs.Patterns.{pattern, smallestShared}
+use Rattle.cell_pairs.specs.WorkList.{coloured, batches, distantPair, distantBatch, distantColours, distantPart, touchingPair, touchingPart}
 use Rattle.pair_counts.specs.SharedVertices.{smallest-found, smallest-none}
 use Rattle.pair_counts.specs.CellGroupsFacts.{total-coloured}
 
 -- ---- a sum over the distant part
 
-module _ (w : Rec → ℕ) (vs : List ℕ) where
-  distantPair-total : (i j : ℕ) → total w (distantPair vs i j) ≡ gate (not (share vs i j)) (w (rec 255 i j))
+module _ (w : WorkRecord → ℕ) (vs : List ℕ) where
+  distantPair-total : (i j : ℕ) → total w (distantPair vs i j) ≡ gate (not (share vs i j)) (w (rec distantPattern i j))
   unfolding distantPair
   distantPair-total i j = simp (total-when, total-one)
 
@@ -45,9 +47,9 @@ module _ (w : Rec → ℕ) (vs : List ℕ) where
       ∙ total-ext _ (g tests) (λ j. total-batches (λ i. total w (distantPair vs i j)) B tests h) trials
 
 -- batches are not empty, and each cell has a colour: the distant part goes once through all pairs that share no vertex
-pub distant-total : (w : Rec → ℕ) (m : Mesh) (B : ℕ) (ts rs : List ℕ) → 0 < B → length ts ≡ m .cells → length rs ≡ m .cells
+pub distant-total : (w : WorkRecord → ℕ) (m : Mesh) (B : ℕ) (ts rs : List ℕ) → 0 < B → length ts ≡ m .cells → length rs ≡ m .cells
     → total w (distantPart m B ts rs)
-    ≡ total (λ i. total (λ j. gate (not (share (m .cellVertices) i j)) (w (rec 255 i j))) (range (m .cells))) (range (m .cells))
+    ≡ total (λ i. total (λ j. gate (not (share (m .cellVertices) i j)) (w (rec distantPattern i j))) (range (m .cells))) (range (m .cells))
 unfolding distantPart
 distant-total w m B ts rs h test trial =
     let C = m .cells in
@@ -66,19 +68,19 @@ distant-total w m B ts rs h test trial =
 
 -- ---- a sum over the touching part
 
-touchingPair-total : (w : Rec → ℕ) (m : Mesh) (p v i j : ℕ)
+touchingPair-total : (w : WorkRecord → ℕ) (m : Mesh) (p v i j : ℕ)
     → total w (touchingPair m p v i j) ≡ gate (eqb (smallestShared (m .cellVertices) (m .vertices) i j) v) (gate (eqb (pattern (m .cellVertices) i j) p) (w (rec p i j)))
 unfolding touchingPair
 touchingPair-total w m p v i j = simp (total-when, total-one) (gate-and (eqb (smallestShared (m .cellVertices) (m .vertices) i j) v) (eqb (pattern (m .cellVertices) i j) p) _)
 
-module _ (w : Rec → ℕ) (m : Mesh) (below : (k : ℕ) → k < 3 * m .cells → getD (m .cellVertices) k 0 < m .vertices)
-    (known : (i j : ℕ) → i < m .cells → j < m .cells → share (m .cellVertices) i j ≡ true → pattern (m .cellVertices) i j < outside) where
+module _ (w : WorkRecord → ℕ) (m : Mesh) (below : (k : ℕ) → k < 3 * m .cells → getD (m .cellVertices) k 0 < m .vertices)
+    (known : (i j : ℕ) → i < m .cells → j < m .cells → share (m .cellVertices) i j ≡ true → pattern (m .cellVertices) i j < patternCount) where
   -- of all patterns and vertices, one alone has a record of the pair, if it shares a vertex
   touching-once : (i j : ℕ) → i < m .cells → j < m .cells
-      → total (λ p. total (λ v. total w (touchingPair m p v i j)) (range (m .vertices))) (range outside)
+      → total (λ p. total (λ v. total w (touchingPair m p v i j)) (range (m .vertices))) (range patternCount)
       ≡ gate (share (m .cellVertices) i j) (w (rec (pattern (m .cellVertices) i j) i j))
   touching-once i j hi hj =
-      total-ext _ _ (λ p. total-ext _ (λ v. gate (eqb l v) (g p)) (λ v. touchingPair-total w m p v i j) (range V′)) (range outside) ∙ go (share vs i j) refl
+      total-ext _ _ (λ p. total-ext _ (λ v. gate (eqb l v) (g p)) (λ v. touchingPair-total w m p v i j) (range V′)) (range patternCount) ∙ go (share vs i j) refl
     where
       vs : List ℕ
       vs = m .cellVertices
@@ -92,15 +94,15 @@ module _ (w : Rec → ℕ) (m : Mesh) (below : (k : ℕ) → k < 3 * m .cells �
       g : ℕ → ℕ
       g p = gate (eqb (pattern vs i j) p) (w (rec p i j))
 
-      go : (b : Bool) → share vs i j ≡ b → total (λ p. total (λ v. gate (eqb l v) (g p)) (range V′)) (range outside) ≡ gate (share vs i j) (w (rec (pattern vs i j) i j))
+      go : (b : Bool) → share vs i j ≡ b → total (λ p. total (λ v. gate (eqb l v) (g p)) (range V′)) (range patternCount) ≡ gate (share vs i j) (w (rec (pattern vs i j) i j))
       go true e =
-          total-ext _ g (λ p. pick l V′ (λ _. g p) (smallest-found vs V′ i j (m .cells) below hi e)) (range outside)
-          ∙ pick (pattern vs i j) outside (λ p. w (rec p i j)) (known i j hi hj e)
+          total-ext _ g (λ p. pick l V′ (λ _. g p) (smallest-found vs V′ i j (m .cells) below hi e)) (range patternCount)
+          ∙ pick (pattern vs i j) patternCount (λ p. w (rec p i j)) (known i j hi hj e)
           ∙ sym (ap (λ (b : Bool). gate b (w (rec (pattern vs i j) i j))) e)
       go false e =
           let none : l ≡ V′ = smallest-none vs V′ i j e in
-          total-ext _ (λ _. 0) (λ p. pick-none l V′ (λ _. g p) (omega arith)) (range outside)
-          ∙ total-zero (range outside)
+          total-ext _ (λ _. 0) (λ p. pick-none l V′ (λ _. g p) (omega arith)) (range patternCount)
+          ∙ total-zero (range patternCount)
           ∙ sym (ap (λ (b : Bool). gate b (w (rec (pattern vs i j) i j))) e)
 
   -- each vertex is below V, and each pattern is of the list: the touching part goes once through all pairs that share a vertex
@@ -110,10 +112,10 @@ module _ (w : Rec → ℕ) (m : Mesh) (below : (k : ℕ) → k < 3 * m .cells �
   touching-total =
       let R = range (m .cells) in
       let n : ℕ → ℕ → ℕ → ℕ → ℕ = λ p v i j. total w (touchingPair m p v i j) in
-      let every : total w (touchingPart m) ≡ total (λ p. total (λ v. total (λ i. total (λ j. n p v i j) R) R) (range (m .vertices))) (range outside) = simp total-flatMap in
+      let every : total w (touchingPart m) ≡ total (λ p. total (λ v. total (λ i. total (λ j. n p v i j) R) R) (range (m .vertices))) (range patternCount) = simp total-flatMap in
       every
-      ∙ total-ext _ _ (λ p. total-inward (λ v i j. n p v i j) (range (m .vertices)) R R) (range outside)
-      ∙ total-inward (λ p i j. total (λ v. n p v i j) (range (m .vertices))) (range outside) R R
+      ∙ total-ext _ _ (λ p. total-inward (λ v i j. n p v i j) (range (m .vertices)) R R) (range patternCount)
+      ∙ total-inward (λ p i j. total (λ v. n p v i j) (range (m .vertices))) (range patternCount) R R
       ∙ total-below _ _ (m .cells) (λ i hi. total-below _ _ (m .cells) (λ j hj. touching-once i j hi hj))
 
 -- ---- a sum over all pairs, of which those of one pair count

@@ -11,8 +11,9 @@ use Rattle.lists.specs.Bool.{_and_, and-left, and-right}
 use Rattle.lists.specs.Range.{range, batch, AllIn, all-in-flatMap, all-in-when, all-in-range, all-in-below, all-in-filter, all-in-batch}
 use Rattle.grid.specs.Cells.{share}
 use Rattle.grid.specs.Mesh.{Mesh}
-use Rattle.cell_pairs.specs.Patterns.{outside, pattern, smallestShared}
-use Rattle.cell_pairs.specs.WorkList.{rec, coloured, distantPair, distantBatch, distantColours, distantPart, touchingPair, touchingPart}
+use Rattle.work_records.specs.Records.{rec, patternCount, distantPattern}
+use Rattle.cell_pairs.specs.Patterns.{pattern, smallestShared}
+use Rattle.cell_pairs.specs.WorkList.{coloured, distantPair, distantBatch, distantColours, distantPart, touchingPair, touchingPart}
 use Rattle.pair_counts.specs.WorkRecords.{Distant, Touching}
 use Rattle.pair_counts.specs.SharedVertices.{smallest-shares}
 
@@ -24,7 +25,7 @@ module _ (m : Mesh) where
   distantPair-each : (i j : ℕ) → i < m .cells → j < m .cells → AllIn (Distant m) (distantPair (m .cellVertices) i j)
   unfolding distantPair
   distantPair-each i j hi hj =
-      all-in-when (Distant m) (not (share (m .cellVertices) i j)) (rec 255 i j)
+      all-in-when (Distant m) (not (share (m .cellVertices) i j)) (rec distantPattern i j)
       (λ e. record { testCell = hi; trialCell = hj; apart = not-true (share (m .cellVertices) i j) e; marked = refl })
 
   distantBatch-each : (tests trials : List ℕ) → AllIn (λ i. i < m .cells) tests → AllIn (λ j. j < m .cells) trials
@@ -46,7 +47,7 @@ module _ (m : Mesh) where
       all-in-below (Distant m) _ _
       (λ c _. all-in-below (Distant m) _ _ (λ d _. distantColours-each B _ _ (coloured-below (m .cells) ts c) (coloured-below (m .cells) rs d)))
 
-  touchingPair-each : (p v i j : ℕ) → p < outside → v < m .vertices → i < m .cells → j < m .cells → AllIn (Touching m) (touchingPair m p v i j)
+  touchingPair-each : (p v i j : ℕ) → p < patternCount → v < m .vertices → i < m .cells → j < m .cells → AllIn (Touching m) (touchingPair m p v i j)
   unfolding touchingPair
   touchingPair-each p v i j hp hv hi hj =
       let smallest : ℕ = smallestShared (m .cellVertices) (m .vertices) i j in

@@ -1,6 +1,4 @@
--- The arguments of the call `plan` as the definitions take them (`Arguments`), and what its checks and its work come to (`Facts`).
-pub mod Arguments
+-- What the checks of planning (`Facts`) and its work (`Work`, `Plan`) come to.
 pub mod Facts
 pub mod Work
 pub mod Plan
-pub mod Promises

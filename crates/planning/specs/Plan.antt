@@ -7,25 +7,21 @@ use mathlib.Core.Bool.{true}
 use mathlib.Core.List.{List, _++_}
 use lib.ListN.{length, drop}
 use borrow.Author.Tests.{eqb-true}
-use Rattle.lists.specs.Bool.{and-left, and-right}
-use Rattle.lists.specs.Refusals.{refusal-passes, refusal-none}
-use Rattle.grid.specs.Mesh.{Mesh, verticesRight}
-use Rattle.grid.specs.Facts.{Fine, fine, within-high}
+use Rattle.lists.specs.Bool.{every-at}
+use Rattle.grid.specs.Mesh.{mostCells, Mesh, verticesRight}
+use Rattle.grid.specs.Facts.{within-high}
 use Rattle.function.specs.declared.Element.{Element}
 use Rattle.function.specs.Elements.{dim}
 use Rattle.function.specs.Numbering.{dofList, dofCount, ownerList}
 use Rattle.function.specs.NumberingWalk.{Sized}
 use Rattle.function.specs.Colours.{colourList, colourCount, Colourable}
 use Rattle.function.specs.ColoursPromises.{count-at-most}
-use Rattle.cell_pairs.specs.WorkList.{flat, distantPart, touchingPair, touchingPart, workList, sharingPairs, distantPairs}
+use Rattle.work_records.specs.Records.{flat}
+use Rattle.cell_pairs.specs.WorkList.{distantPart, touchingPair, touchingPart, workList, sharingPairs, distantPairs}
 use Rattle.pair_counts.specs.Counting.{Countable, split}
 use Rattle.touching_pairs.specs.Visits.{bare, Touchable}
-use Rattle.boundary_assemblers.specs.declared.PlanNumbers.{PlanNumbers}
-use Rattle.boundary_assemblers.specs.declared.Planned.the-variants.{Ready, Refused as PlanRefused}
-use Rattle.boundary_assemblers.specs.Planning.{planRefusal, plan, planAnswer, planLists, unlessRefused, Planning, Lists, spaceOn, testSpace, trialSpace, batchRight, lengthsRight, planNumbers, writtenLists}
-use Rattle.boundary_assemblers.specs.Accepted.{Accepted}
-use Rattle.boundary_assemblers.specs.PlanRight.{counted}
-use Rattle.planning.specs.Arguments.{listsOf}
+use Rattle.plans.specs.Planning.{PlanNumbers, ready, refused, listsOf, planRefusal, plan, planAnswer, planLists, unlessRefused, Planning, Lists, spaceOn, testSpace, trialSpace, mostBatch, batchRight, lengthsRight, planNumbers, writtenLists}
+use Rattle.plans.specs.Accepted.{Accepted, counted, mesh-fine}
 use Rattle.planning.specs.Facts.{dims-small}
 use Rattle.planning.specs.Work.{Ready as WorkReady, Written}
 
@@ -42,19 +38,14 @@ pub record Lengths (C : ℕ) (test trial : Element) (l : Lists) : Type 0 where
 pub lengths : (C : ℕ) (test trial : Element) (l : Lists) → lengthsRight C test trial l ≡ true → Lengths C test trial l
 unfolding lengthsRight
 lengths C test trial l h =
-    let h₆ = and-left _ _ h in
-    let h₅ = and-left _ _ h₆ in
-    let h₄ = and-left _ _ h₅ in
-    let h₃ = and-left _ _ h₄ in
-    let h₂ = and-left _ _ h₃ in
     record {
-      testDofs = eqb-true _ _ (and-left _ _ h₂);
-      trialDofs = eqb-true _ _ (and-right _ _ h₂);
-      testColours = eqb-true _ _ (and-right _ _ h₃);
-      trialColours = eqb-true _ _ (and-right _ _ h₄);
-      testOwners = eqb-true _ _ (and-right _ _ h₅);
-      trialOwners = eqb-true _ _ (and-right _ _ h₆);
-      work = eqb-true _ _ (and-right _ _ h);
+      testDofs = eqb-true _ _ (every-at _ h 0);
+      trialDofs = eqb-true _ _ (every-at _ h 1);
+      testColours = eqb-true _ _ (every-at _ h 2);
+      trialColours = eqb-true _ _ (every-at _ h 3);
+      testOwners = eqb-true _ _ (every-at _ h 4);
+      trialOwners = eqb-true _ _ (every-at _ h 5);
+      work = eqb-true _ _ (every-at _ h 6);
     }
 
 -- the distant pairs and the work list read only cells, vertices and the vertex list
@@ -70,16 +61,13 @@ module _ {x : Planning} {l : Lists} (ok : Accepted x l) where
   abbrev C : ℕ
   C = x .mesh .cells
 
-  pub mesh-fine : Fine (x .mesh)
-  mesh-fine = fine (x .mesh) (refusal-passes 1 _ _ (ok .cells) ∙ refusal-passes 2 _ _ (ok .vertices) ∙ refusal-passes 3 _ _ (ok .edges) ∙ refusal-none)
-
   pub lens : Lengths C (x .test) (x .trial) l
   lens = lengths C (x .test) (x .trial) l (ok .lengths)
 
   -- what `assign_dofs` asks
   sized : (e : Element) → dim e ≤ 10 → Sized (spaceOn (x .mesh) e) C
   sized e small =
-      let m = mesh-fine in
+      let m = mesh-fine ok in
       record {
         few = m .fewCells;
         vertices-long = m .vertexPlaces;
@@ -98,7 +86,7 @@ module _ {x : Planning} {l : Lists} (ok : Accepted x l) where
   -- what `cell_colouring` asks
   pub colourable : (colours : List ℕ) → length colours ≡ C → Colourable C (x .mesh .cellVertices) (x .mesh .cellEdges) colours
   colourable colours e =
-      let m = mesh-fine in
+      let m = mesh-fine ok in
       record { cells = m .fewCells; vertex-list = m .vertexPlaces; edge-list = m .edgePlaces; places = e }
 
   -- what the work list asks
@@ -107,15 +95,15 @@ module _ {x : Planning} {l : Lists} (ok : Accepted x l) where
   touchable =
       record {
         cells = C;
-        size = mesh-fine .vertexPlaces;
-        below = and-right _ _ (and-left _ _ (ok .vertices));
-        apart = and-right _ _ (ok .vertices);
+        size = mesh-fine ok .vertexPlaces;
+        below = every-at _ (ok .vertices) 1;
+        apart = every-at _ (ok .vertices) 2;
         patterns = ok .patterns;
       }
 
   counts : Countable (bare C (x .mesh .vertices) (x .mesh .cellVertices)) (x .batch) (colourList (testSpace x) C) (colourList (trialSpace x) C)
   counts =
-      let c = counted x l ok in
+      let c = counted ok in
       record {
         batch = c .batch;
         testColours = c .testColours;
@@ -124,18 +112,18 @@ module _ {x : Planning} {l : Lists} (ok : Accepted x l) where
         patterns = c .patterns;
       }
 
-  pub ready : (work : List ℕ) → length work ≡ 3 * (C * C) → (tn rn : ℕ) → tn ≡ colourCount (colourList (testSpace x) C) → rn ≡ colourCount (colourList (trialSpace x) C)
+  work-ready : (work : List ℕ) → length work ≡ 3 * (C * C) → (tn rn : ℕ) → tn ≡ colourCount (colourList (testSpace x) C) → rn ≡ colourCount (colourList (trialSpace x) C)
       → WorkReady (bare C (x .mesh .vertices) (x .mesh .cellVertices)) (x .batch) (colourList (testSpace x) C) tn (colourList (trialSpace x) C) rn work
   unfolding batchRight
-  ready work long tn rn t r =
-      let m = mesh-fine in
+  work-ready work long tn rn t r =
+      let m = mesh-fine ok in
       record {
         counts = counts;
         touchable = touchable;
         long = m .vertexPlaces;
         cells = m .fewCells;
         top = m .fewVertices;
-        batch = omega (arith, within-high 1 65535 (x .batch) (ok .batch));
+        batch = omega (arith, within-high 1 mostBatch (x .batch) (ok .batch));
         test = t;
         trial = r;
         test-few = omega (arith, t, count-at-most (testSpace x) C, m .fewCells);
@@ -144,8 +132,8 @@ module _ {x : Planning} {l : Lists} (ok : Accepted x l) where
       }
 
   -- N fits, and S is what is left of C·C
-  pub pairs-few : C * C ≤ 4194304
-  pairs-few = mul-le-mul (mesh-fine .fewCells) (mesh-fine .fewCells)
+  pub pairs-few : C * C ≤ mostCells * mostCells
+  pairs-few = mul-le-mul (mesh-fine ok .fewCells) (mesh-fine ok .fewCells)
 
   pub distant-few : distantPairs (x .mesh) ≤ C * C
   distant-few = omega (arith, split (x .mesh))
@@ -164,7 +152,7 @@ module _ {x : Planning} {l : Lists} (ok : Accepted x l) where
         let t′ : _ ≡ colourList (testSpace x) C = t ∙ ap (colourList (testSpace x)) c in
         let r′ : _ ≡ colourList (trialSpace x) C = r ∙ ap (colourList (trialSpace x)) c in
         rw (c, v, b, t′, r′)
-        (ready work long _ _
+        (work-ready work long _ _
         (wt ∙ et ∙ ap (λ (n : ℕ). colourCount (colourList (testSpace x) n)) c)
         (wr ∙ er ∙ ap (λ (n : ℕ). colourCount (colourList (trialSpace x) n)) c))
 
@@ -206,15 +194,15 @@ module _ {x : Planning} {l : Lists} (ok : Accepted x l) where
 
 -- ---- the two ways the call ends
 
-pub plan-refused : (x : Planning) (l : Lists) (v : ℕ) → v ≡ planRefusal x l → (v ≡ 0 → ⊥) → (PlanRefused v ≡ plan x l) × (l ≡ planLists x l)
+pub plan-refused : (x : Planning) (l : Lists) (v : ℕ) → v ≡ planRefusal x l → (v ≡ 0 → ⊥) → (refused v ≡ plan x l) × (l ≡ planLists x l)
 unfolding plan planLists
 plan-refused x l v e h = rw (← e) (go v h)
   where
-    go : (v : ℕ) → (v ≡ 0 → ⊥) → (PlanRefused v ≡ planAnswer v (planNumbers x)) × (l ≡ unlessRefused v (writtenLists x l) l)
+    go : (v : ℕ) → (v ≡ 0 → ⊥) → (refused v ≡ planAnswer v (planNumbers x)) × (l ≡ unlessRefused v (writtenLists x l) l)
     go zero h = absurd (h refl)
     go (suc v) h = (refl, refl)
 
 pub plan-ready : (x : Planning) (l l′ : Lists) (r : PlanNumbers) → planRefusal x l ≡ 0 → r ≡ planNumbers x → l′ ≡ writtenLists x l
-    → (Ready r ≡ plan x l) × (l′ ≡ planLists x l)
+    → (ready r ≡ plan x l) × (l′ ≡ planLists x l)
 unfolding plan planLists
 plan-ready x l l′ r e n w = rw (e, n, w) (refl, refl)

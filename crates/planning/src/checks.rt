@@ -6,11 +6,16 @@ use grid::mesh_refusal;
 use grid::wide;
 use integrands::Integrand;
 use integrands::integrand_right;
+use work_records::WIDTH;
 ghost use mathlib.Core.Path.{_≡_};
 ghost use Prim.Native.Nat.{_≤_};
-ghost use Rattle.boundary_assemblers.specs.Planning.{lengthsRight, planRefusal};
-ghost use Rattle.function.specs.Elements.{dim};
-ghost use Rattle.planning.specs.Arguments.{meshOf, planningOf, listsOf};
+ghost use Rattle.plans.specs.Planning.{lengthsRight, planRefusal};
+ghost use Rattle.grid.specs.Mesh.{mostCells};
+ghost use Rattle.function.specs.Elements.{mostDim, dim};
+ghost use Rattle.plans.specs.Planning.{meshOf, planningOf, listsOf};
+
+// The largest batch.
+const MOST_BATCH: u32 = 65535;
 
 // Check 8.
 fn lengths_right(
@@ -25,7 +30,7 @@ fn lengths_right(
     trial_owners: &[u32],
     work: &[u32],
 ) -> bool
-    requires { ⌜ (cells ≤ 2048) × (dim test ≤ 10) × (dim trial ≤ 10) ⌝ }
+    requires { ⌜ (cells ≤ mostCells) × (dim test ≤ mostDim) × (dim trial ≤ mostDim) ⌝ }
     ensures { λ r. ⌜ r ≡ lengthsRight cells test trial (listsOf (now («test_dofs» .entry)) (now («trial_dofs» .entry)) (now («test_colours» .entry)) (now («trial_colours» .entry)) (now («test_owners» .entry)) (now («trial_owners» .entry)) (now (work .entry))) ⌝ }
 {
     let c = wide(cells);
@@ -38,7 +43,7 @@ fn lengths_right(
         & (trial_colours.len() == c)
         & (test_owners.len() == 3 * rows)
         & (trial_owners.len() == 3 * columns)
-        & (work.len() == 3 * pairs)
+        & (work.len() == WIDTH * pairs)
 }
 
 // The first check that turns planning down, or 0. It writes nothing.
@@ -70,7 +75,7 @@ pub fn plan_refusal(
     if !dims_right(test, trial) {
         return 4;
     }
-    if !((1 <= batch) & (batch <= 65535)) {
+    if !((1 <= batch) & (batch <= MOST_BATCH)) {
         return 5;
     }
     if !integrand_right(integrand) {

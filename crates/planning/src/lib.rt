@@ -12,9 +12,10 @@ use grid::wide;
 use integrands::Integrand;
 use work_list::write_work;
 ghost use mathlib.Core.Path.{_≡_};
-ghost use Rattle.boundary_assemblers.specs.Planning.{plan, planNumbers, planLists, writtenLists};
-ghost use Rattle.boundary_assemblers.specs.Accepted.{Accepted};
-ghost use Rattle.planning.specs.Arguments.{meshOf, planningOf, listsOf};
+ghost use Rattle.plans.specs.Planning.{plan, planNumbers, planLists, writtenLists};
+ghost use Rattle.boundary_assemblers.specs.Forms.{numbersOf, plannedOf};
+ghost use Rattle.plans.specs.Accepted.{Accepted};
+ghost use Rattle.plans.specs.Planning.{meshOf, planningOf, listsOf};
 
 // Writes the seven lists of a planning that no check turns down.
 fn write_plan(
@@ -37,7 +38,7 @@ fn write_plan(
 ) -> PlanNumbers
     requires { ⌜ Accepted (planningOf (meshOf cells vertices edges (now «cell_vertices») (now «cell_edges»)) test trial batch integrand)
         (listsOf (now «test_dofs») (now «trial_dofs») (now «test_colours») (now «trial_colours») (now «test_owners») (now «trial_owners») (now work)) ⌝ }
-    ensures { λ r. ⌜ r ≡ planNumbers (planningOf (meshOf cells vertices edges (now («cell_vertices» .entry)) (now («cell_edges» .entry))) test trial batch integrand) ⌝ }
+    ensures { λ r. ⌜ numbersOf r ≡ planNumbers (planningOf (meshOf cells vertices edges (now («cell_vertices» .entry)) (now («cell_edges» .entry))) test trial batch integrand) ⌝ }
     ensures { λ _. ⌜ listsOf (now («test_dofs» .exit)) (now («trial_dofs» .exit)) (now («test_colours» .exit)) (now («trial_colours» .exit)) (now («test_owners» .exit)) (now («trial_owners» .exit)) (now (work .exit))
         ≡ writtenLists (planningOf (meshOf cells vertices edges (now («cell_vertices» .entry)) (now («cell_edges» .entry))) test trial batch integrand)
         (listsOf (now («test_dofs» .entry)) (now («trial_dofs» .entry)) (now («test_colours» .entry)) (now («trial_colours» .entry)) (now («test_owners» .entry)) (now («trial_owners» .entry)) (now (work .entry))) ⌝ }
@@ -100,7 +101,7 @@ pub fn plan(
     trial_owners: &mut [u32],
     work: &mut [u32],
 ) -> Planned
-    ensures { λ r. ⌜ r ≡ plan (planningOf (meshOf cells vertices edges (now («cell_vertices» .entry)) (now («cell_edges» .entry))) test trial batch integrand)
+    ensures { λ r. ⌜ plannedOf r ≡ plan (planningOf (meshOf cells vertices edges (now («cell_vertices» .entry)) (now («cell_edges» .entry))) test trial batch integrand)
         (listsOf (now («test_dofs» .entry)) (now («trial_dofs» .entry)) (now («test_colours» .entry)) (now («trial_colours» .entry)) (now («test_owners» .entry)) (now («trial_owners» .entry)) (now (work .entry))) ⌝ }
     ensures { λ _. ⌜ listsOf (now («test_dofs» .exit)) (now («trial_dofs» .exit)) (now («test_colours» .exit)) (now («trial_colours» .exit)) (now («test_owners» .exit)) (now («trial_owners» .exit)) (now (work .exit))
         ≡ planLists (planningOf (meshOf cells vertices edges (now («cell_vertices» .entry)) (now («cell_edges» .entry))) test trial batch integrand)

@@ -1,16 +1,17 @@
 // The work list: distant pairs, then touching pairs.
-use cell_groups::by_colour;
+use cells_by_key::by_key;
 use distant_pairs::write_distant;
+use grid::MOST_CELLS;
 use touching_pairs::write_touching;
 ghost use mathlib.Core.Path.{_≡_};
 ghost use Prim.Native.Nat.{_+_, _*_, _≤_};
 ghost use lib.ListN.{length};
-ghost use Rattle.cell_pairs.specs.WorkList.{flat, workList, distantPairs};
+ghost use Rattle.cell_pairs.specs.WorkList.{workList, distantPairs};
 ghost use Rattle.function.specs.Colours.{colourCount};
 ghost use Rattle.touching_pairs.specs.Visits.{bare};
 ghost use Rattle.planning.specs.Work.{Ready, Scratch, Written};
 
-// By way of four lists: the cells by colour and where each colour starts, for the test and for the trial element.
+// By way of four lists: the cells by colour and where each colour's end, for the test and for the trial element.
 fn write_parts(
     cells: usize,
     top: usize,
@@ -21,25 +22,25 @@ fn write_parts(
     trial_colours: &[u32],
     trial_count: usize,
     test_order: &mut [u32],
-    test_starts: &mut [u32],
+    test_ends: &mut [usize],
     trial_order: &mut [u32],
-    trial_starts: &mut [u32],
+    trial_ends: &mut [usize],
     work: &mut [u32],
 ) -> usize
     requires { ⌜ Ready (bare cells top (now vertices)) batch (now «test_colours») «test_count» (now «trial_colours») «trial_count» (now work) ⌝ }
-    requires { ⌜ Scratch cells «test_count» (now «test_order») (now «test_starts») ⌝ }
-    requires { ⌜ Scratch cells «trial_count» (now «trial_order») (now «trial_starts») ⌝ }
+    requires { ⌜ Scratch cells «test_count» (now «test_order») (now «test_ends») ⌝ }
+    requires { ⌜ Scratch cells «trial_count» (now «trial_order») (now «trial_ends») ⌝ }
     ensures { λ r. ⌜ Written (bare cells top (now (vertices .entry))) batch (now («test_colours» .entry)) (now («trial_colours» .entry)) (now (work .exit)) r ⌝ }
 {
-    by_colour(test_colours, test_count, test_order, test_starts);
-    by_colour(trial_colours, trial_count, trial_order, trial_starts);
+    by_key(test_colours, 1, test_ends, test_order);
+    by_key(trial_colours, 1, trial_ends, trial_order);
     let n = write_distant(
         vertices,
         batch,
         test_order,
-        test_starts,
+        test_ends,
         trial_order,
-        trial_starts,
+        trial_ends,
         work,
     );
     write_touching(vertices, cells, top, work, n);
@@ -61,12 +62,10 @@ pub fn write_work(
     requires { ⌜ Ready (bare cells top (now vertices)) batch (now «test_colours») «test_count» (now «trial_colours») «trial_count» (now work) ⌝ }
     ensures { λ r. ⌜ Written (bare cells top (now (vertices .entry))) batch (now («test_colours» .entry)) (now («trial_colours» .entry)) (now (work .exit)) r ⌝ }
 {
-    let test_end = test_count + 1;
-    let trial_end = trial_count + 1;
-    let mut test_order = [0u32; 2048];
-    let mut test_starts = [0u32; 2049];
-    let mut trial_order = [0u32; 2048];
-    let mut trial_starts = [0u32; 2049];
+    let mut test_order = [0u32; MOST_CELLS];
+    let mut test_ends = [0usize; MOST_CELLS];
+    let mut trial_order = [0u32; MOST_CELLS];
+    let mut trial_ends = [0usize; MOST_CELLS];
     write_parts(
         cells,
         top,
@@ -77,9 +76,9 @@ pub fn write_work(
         trial_colours,
         trial_count,
         &mut test_order[..cells],
-        &mut test_starts[..test_end],
+        &mut test_ends[..test_count],
         &mut trial_order[..cells],
-        &mut trial_starts[..trial_end],
+        &mut trial_ends[..trial_count],
         work,
     )
 }

@@ -12,9 +12,9 @@ use lib.Ieee.{Float}
 use Rattle.lists.specs.Bool.{_and_}
 use Rattle.lists.specs.Fold.{listOf}
 use Rattle.cell_pair_assemblers.specs.Lent.{Touching, Distant}
-use Rattle.cell_pairs.specs.WorkList.{Rec}
-use Rattle.boundary_assemblers.specs.Runs.{Answer, found, accepted, refused}
-use Rattle.boundary_assemblers.specs.Machine.{Call, looks, addsDistant, addsTouching}
+use Rattle.work_records.specs.declared.WorkRecord.{WorkRecord}
+use Rattle.runs.specs.Runs.{Answer, found, accepted, refused}
+use Rattle.runs.specs.Calls.{Call, looks, addsDistant, addsTouching, addsEntries}
 use Rattle.replay.specs.Encoding.{partOf, listIn, distantIn, touchingIn, callOf, callAt, callsOf, callCount, answerNumbers}
 
 -- ---- lists one after the other in a pool
@@ -59,22 +59,29 @@ unfoldable kindOf : Call → ℕ
 kindOf looks = 0
 kindOf (addsDistant a) = 1
 kindOf (addsTouching a) = 2
+kindOf (addsEntries a) = 3
 
 unfoldable firstCount : Call → ℕ
 firstCount looks = 0
 firstCount (addsDistant a) = a .testPoints
 firstCount (addsTouching a) = a .points
+firstCount (addsEntries a) = a .points
 
 unfoldable secondCount : Call → ℕ
 secondCount looks = 0
 secondCount (addsDistant a) = a .trialPoints
 secondCount (addsTouching a) = 0
+secondCount (addsEntries a) = 0
+
+abbrev touchingLists : Touching → List (List Float)
+touchingLists a = a .weights ∷ a .testTable ∷ a .trialTable ∷ a .kernel ∷ a .testGeometry ∷ a .trialGeometry ∷ [] ∷ []
 
 unfoldable lentLists : Call → List (List Float)
 lentLists looks = [] ∷ [] ∷ [] ∷ [] ∷ [] ∷ [] ∷ [] ∷ []
 lentLists (addsDistant a) =
     a .testWeights ∷ a .trialWeights ∷ a .testTable ∷ a .trialTable ∷ a .kernel ∷ a .testGeometry ∷ a .trialGeometry ∷ []
-lentLists (addsTouching a) = a .weights ∷ a .testTable ∷ a .trialTable ∷ a .kernel ∷ a .testGeometry ∷ a .trialGeometry ∷ [] ∷ []
+lentLists (addsTouching a) = touchingLists a
+lentLists (addsEntries a) = touchingLists a
 
 -- its numbers, where its lists stand in the pool from place n on
 unfoldable numbersOf : ℕ → Call → List ℕ
@@ -90,6 +97,7 @@ unfolding lentLists
 seven looks = refl
 seven (addsDistant a) = refl
 seven (addsTouching a) = refl
+seven (addsEntries a) = refl
 
 eleven : (n : ℕ) (c : Call) → length (numbersOf n c) ≡ 11
 unfolding numbersOf
@@ -138,6 +146,15 @@ decodes (addsTouching a) p q =
     (lent-list (addsTouching a) p q 3 (omega arith))
     (lent-list (addsTouching a) p q 4 (omega arith))
     (lent-list (addsTouching a) p q 5 (omega arith)))
+decodes (addsEntries a) p q =
+    ap addsEntries
+    (touching-is _ _ a refl
+    (lent-list (addsEntries a) p q 0 (omega arith))
+    (lent-list (addsEntries a) p q 1 (omega arith))
+    (lent-list (addsEntries a) p q 2 (omega arith))
+    (lent-list (addsEntries a) p q 3 (omega arith))
+    (lent-list (addsEntries a) p q 4 (omega arith))
+    (lent-list (addsEntries a) p q 5 (omega arith)))
 
 -- ---- a list of calls
 
@@ -209,7 +226,7 @@ encodes cs =
 -- ---- answers
 
 -- the four numbers tell each answer from any other
-same-record : (e f : Rec) → e .pattern ≡ f .pattern → e .test ≡ f .test → e .trial ≡ f .trial → e ≡ f
+same-record : (e f : WorkRecord) → e .pattern ≡ f .pattern → e .test ≡ f .test → e .trial ≡ f .trial → e ≡ f
 same-record e f p q r = rw (← p, ← q, ← r) refl
 
 pub told : (a b : Answer) → answerNumbers a ≡ answerNumbers b → a ≡ b

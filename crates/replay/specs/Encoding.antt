@@ -8,13 +8,13 @@ use lib.Ieee.{Float}
 use Rattle.lists.specs.Bool.{_and_}
 use Rattle.lists.specs.Fold.{listOf}
 use Rattle.cell_pair_assemblers.specs.Lent.{Touching, Distant}
-use Rattle.boundary_assemblers.specs.Runs.{Answer, found, accepted, refused}
-use Rattle.boundary_assemblers.specs.Machine.{Call, looks, addsDistant, addsTouching}
+use Rattle.runs.specs.Runs.{Answer, found, accepted, refused}
+use Rattle.runs.specs.Calls.{Call, looks, addsDistant, addsTouching, addsEntries}
 
 -- ---- calls
 
--- A call is eleven numbers: its kind (0 look, 1 distant, any other touching), two point counts (of a touching call the first alone is read), and eight
--- places, which part one pool of numbers into seven lists (a touching call has six, a look none).
+-- A call is eleven numbers: its kind (0 look, 1 distant, 2 touching, any other the entries call), two point counts (only an add of a distant pair reads the
+-- second), and eight places, which part one pool of numbers into seven lists (a touching pair has six, a look none).
 
 -- numbers a to e of the pool, or none where those are not there
 unfoldable pub partOf : List Float → ℕ → ℕ → List Float
@@ -53,7 +53,9 @@ touchingIn pool call =
 -- the call that eleven numbers encode
 unfoldable pub callOf : List Float → List ℕ → Call
 callOf pool call =
-    cond (eqb (getD call 0 0) 0) looks (cond (eqb (getD call 0 0) 1) (addsDistant (distantIn pool call)) (addsTouching (touchingIn pool call)))
+    cond (eqb (getD call 0 0) 0) looks
+    (cond (eqb (getD call 0 0) 1) (addsDistant (distantIn pool call))
+    (cond (eqb (getD call 0 0) 2) (addsTouching (touchingIn pool call)) (addsEntries (touchingIn pool call))))
 
 -- call k
 unfoldable pub callAt : List ℕ → List Float → ℕ → Call

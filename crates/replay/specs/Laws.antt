@@ -14,22 +14,16 @@ use borrow.Author.Tests.{leb-true, leb-false, eq-eqb, ne-eqb}
 use Rattle.lists.specs.Fold.{over, over-snoc, listOf}
 use Rattle.lists.specs.Range.{flatMap-append, flatMap-one}
 use Rattle.lists.specs.Stores.{sets-append, sets-front}
-use Rattle.cell_pair_assemblers.specs.Facts.{touching, distant}
-use Rattle.boundary_assemblers.specs.declared.Run.{Run}
-use Rattle.boundary_assemblers.specs.declared.Looked.{Looked}
-use Rattle.boundary_assemblers.specs.declared.Added.{Added}
-use Rattle.boundary_assemblers.specs.declared.PlanNumbers.{PlanNumbers}
-use Rattle.boundary_assemblers.specs.declared.Planned.the-variants.{Ready, Refused as PlanRefused}
-use Rattle.boundary_assemblers.specs.Planning.{Planning, Lists, plan, planNumbers, planAnswer, planRefusal, planLists, unlessRefused}
-use Rattle.boundary_assemblers.specs.Runs.{Plan, Answer, found, accepted, refused, begin, look, addDistant, addTouching, distantMatrix, touchingMatrix, lookedAnswer, lookedRun, addedAnswer, addedRun}
-use Rattle.boundary_assemblers.specs.Machine.{Call, machineOf, machineRun}
-use Rattle.boundary_assemblers.specs.Calls.{Progress, runAfter, answerOf, matrixAfter, call, callAll}
-use Rattle.boundary_assemblers.specs.Whole.{embed}
-use Rattle.boundary_assemblers.specs.PlanRight.{third-property}
-use Rattle.replay.specs.declared.Replayed.{Replayed}
-use Rattle.replay.specs.declared.Replayed.the-variants.{Played, Refused}
+use Rattle.cell_pair_assemblers.specs.Lent.{touching, distant}
+use Rattle.plans.specs.Planning.{Planning, Lists, PlanNumbers, Planned, ready, refused as not-planned, plan, planNumbers, planAnswer, planRefusal, planLists, unlessRefused}
+use Rattle.plans.specs.Accepted.{ready-is}
+use Rattle.runs.specs.Runs.{Run, Plan, EntryLists, Reply, Answer, found, accepted, refused, begun, look, addDistant, addTouching, addEntries, distantMatrix, touchingMatrix, entriesWritten}
+use Rattle.runs.specs.Calls.{Call, looks, addsDistant, addsTouching, addsEntries, Progress, replyTo, matrixAfter, listsAfter, call, callAll}
+use Rattle.runs.specs.Machine.{machineOf, machineRun}
+use Rattle.runs.specs.Beside.{embed}
+use Rattle.runs.specs.Listed.{planIn, machine-beside}
 use Rattle.replay.specs.Encoding.{listIn, distantIn, touchingIn, callOf, callAt, callsOf, callCount, answerNumbers, putAnswers}
-use Rattle.replay.specs.Replay.{replayAnswer, replayed, replayedMatrix, replayedAnswers}
+use Rattle.replay.specs.Replay.{Outcome, played, refused as not-played, outcome, ended, replayed, replayedMatrix, replayedLists, replayedAnswers}
 
 -- ---- calls and answers, one more
 
@@ -50,20 +44,21 @@ pub length-calls : (calls : List ℕ) (pool : List Float) (n : ℕ) → length (
 unfolding callsOf
 length-calls calls pool n = length-list (callAt calls pool) n
 
-call-more : (l : Plan) (calls : List Call) (c : Call) (r : Run) (M : List Float) → callAll l (calls ++ (c ∷ [])) r M ≡ call l c (callAll l calls r M)
+call-more : (l : Plan) (calls : List Call) (c : Call) (r : Run) (M : List Float) (e : EntryLists)
+    → callAll l (calls ++ (c ∷ [])) r M e ≡ call l c (callAll l calls r M e)
 unfolding callAll
-call-more l calls c r M = over-snoc (call l) calls c _
+call-more l calls c r M e = over-snoc (call l) calls c _
 
 -- one answer a call
 length-over : (l : Plan) (calls : List Call) (s : Progress) → length (over (call l) calls s .answers) ≡ length (s .answers) + length calls
 unfolding over call
 length-over l [] s = omega arith
 length-over l (c ∷ calls) s =
-    omega (arith, length-over l calls (call l c s), length-append (s .answers) (answerOf l c (s .run) (s .matrix) ∷ []))
+    omega (arith, length-over l calls (call l c s), length-append (s .answers) (replyTo l c s .answer ∷ []))
 
-length-answers : (l : Plan) (calls : List Call) (r : Run) (M : List Float) → length (callAll l calls r M .answers) ≡ length calls
+length-answers : (l : Plan) (calls : List Call) (r : Run) (M : List Float) (e : EntryLists) → length (callAll l calls r M e .answers) ≡ length calls
 unfolding callAll
-length-answers l calls r M = omega (arith, length-over l calls (record { run = r; matrix = M; answers = [] }))
+length-answers l calls r M e = omega (arith, length-over l calls (record { run = r; matrix = M; lists = e; answers = [] }))
 
 -- four numbers an answer
 four : (a : Answer) → length (answerNumbers a) ≡ 4
@@ -90,90 +85,117 @@ put-all xs A h = sets-front A (flatMap answerNumbers xs) (omega (arith, length-f
 
 -- ---- what playing leaves
 
+-- a run with a matrix and three lists, no answer given yet
+abbrev pub standing : Run → List Float → EntryLists → Progress
+standing r M e = record { run = r; matrix = M; lists = e; answers = [] }
+
 -- one call: its answer stands from place `at` on
-pub record Stepped (l : Plan) (c : Call) (r : Run) (M : List Float) (A : List ℕ) (at : ℕ) (r′ : Run) (M′ : List Float) (A′ : List ℕ) : Type 0 where
-  pub run : r′ ≡ runAfter l c r M
-  pub matrix : M′ ≡ matrixAfter l c r M
-  pub answers : A′ ≡ sets A at (answerNumbers (answerOf l c r M))
+pub record Stepped (l : Plan) (c : Call) (s : Progress) (A : List ℕ) (at : ℕ) (r : Run) (M : List Float) (e : EntryLists) (A′ : List ℕ) : Type 0 where
+  pub run : r ≡ replyTo l c s .run
+  pub matrix : M ≡ matrixAfter l c s
+  pub lists : e ≡ listsAfter l c s
+  pub answers : A′ ≡ sets A at (answerNumbers (replyTo l c s .answer))
 
 -- a list of calls
-pub record Going (l : Plan) (calls : List Call) (r₀ : Run) (M₀ : List Float) (A₀ : List ℕ) (r : Run) (M : List Float) (A : List ℕ) : Type 0 where
-  pub run : r ≡ callAll l calls r₀ M₀ .run
-  pub matrix : M ≡ callAll l calls r₀ M₀ .matrix
-  pub answers : A ≡ sets A₀ 0 (flatMap answerNumbers (callAll l calls r₀ M₀ .answers))
+pub record Going (l : Plan) (calls : List Call) (s : Progress) (A : List ℕ) (r : Run) (M : List Float) (e : EntryLists) (A′ : List ℕ) : Type 0 where
+  pub run : r ≡ callAll l calls (s .run) (s .matrix) (s .lists) .run
+  pub matrix : M ≡ callAll l calls (s .run) (s .matrix) (s .lists) .matrix
+  pub lists : e ≡ callAll l calls (s .run) (s .matrix) (s .lists) .lists
+  pub answers : A′ ≡ sets A 0 (flatMap answerNumbers (callAll l calls (s .run) (s .matrix) (s .lists) .answers))
 
 -- the loop starts
-pub going-none : (l : Plan) (r : Run) (M : List Float) (A : List ℕ) → Going l [] r M A r M A
+pub going-none : (l : Plan) (r : Run) (M : List Float) (e : EntryLists) (A : List ℕ) → Going l [] (standing r M e) A r M e A
 unfolding callAll over flatMap
-going-none l r M A = record { run = refl; matrix = refl; answers = refl }
+going-none l r M e A = record { run = refl; matrix = refl; lists = refl; answers = refl }
+
+-- a call does not read the answers so far
+unread : (l : Plan) (c : Call) (s : Progress)
+    → (replyTo l c (standing (s .run) (s .matrix) (s .lists)) ≡ replyTo l c s)
+    × (matrixAfter l c (standing (s .run) (s .matrix) (s .lists)) ≡ matrixAfter l c s)
+    × (listsAfter l c (standing (s .run) (s .matrix) (s .lists)) ≡ listsAfter l c s)
+unfolding replyTo matrixAfter listsAfter
+unread l looks s = (refl, refl, refl)
+unread l (addsDistant a) s = (refl, refl, refl)
+unread l (addsTouching a) s = (refl, refl, refl)
+unread l (addsEntries a) s = (refl, refl, refl)
 
 -- a turn
-pub going-more : (l : Plan) (calls : List Call) (c : Call) (r₀ : Run) (M₀ : List Float) (A₀ : List ℕ) (r : Run) (M : List Float) (A : List ℕ)
-    (r′ : Run) (M′ : List Float) (A′ : List ℕ) (n : ℕ) → length calls ≡ n → Going l calls r₀ M₀ A₀ r M A → Stepped l c r M A (4 * n) r′ M′ A′
-    → Going l (calls ++ (c ∷ [])) r₀ M₀ A₀ r′ M′ A′
+pub going-more : (l : Plan) (calls : List Call) (c : Call) (s : Progress) (A₀ : List ℕ) (r : Run) (M : List Float) (e : EntryLists) (A : List ℕ)
+    (r′ : Run) (M′ : List Float) (e′ : EntryLists) (A′ : List ℕ) (n : ℕ) → length calls ≡ n → Going l calls s A₀ r M e A
+    → Stepped l c (standing r M e) A (4 * n) r′ M′ e′ A′ → Going l (calls ++ (c ∷ [])) s A₀ r′ M′ e′ A′
 unfolding call
-going-more l calls c r₀ M₀ A₀ r M A r′ M′ A′ n len before s =
-    let place : n ≡ length (callAll l calls r₀ M₀ .answers) = sym len ∙ sym (length-answers l calls r₀ M₀) in
+going-more l calls c s A₀ r M e A r′ M′ e′ A′ n len before step =
+    let t : Progress = callAll l calls (s .run) (s .matrix) (s .lists) in
+    let here : standing r M e ≡ standing (t .run) (t .matrix) (t .lists) = rw (before .run, before .matrix, before .lists) in
+    let place : n ≡ length (t .answers) = sym len ∙ sym (length-answers l calls (s .run) (s .matrix) (s .lists)) in
+    let same = unread l c t in
     record {
-      run = rw (call-more, s .run, before .run, before .matrix) refl;
-      matrix = rw (call-more, s .matrix, before .run, before .matrix) refl;
-      answers = rw (call-more, s .answers, before .answers, before .run, before .matrix, place) (put-more (callAll l calls r₀ M₀ .answers) _ A₀);
+      run = rw call-more (step .run ∙ ap (λ (q : Progress). replyTo l c q .run) here ∙ ap (λ (q : Reply). q .run) (same .0));
+      matrix = rw call-more (step .matrix ∙ ap (matrixAfter l c) here ∙ same .1);
+      lists = rw call-more (step .lists ∙ ap (listsAfter l c) here ∙ same .2);
+      answers =
+          rw call-more
+          (step .answers
+          ∙ ap (λ (q : Progress). sets A (4 * n) (answerNumbers (replyTo l c q .answer))) here
+          ∙ ap (λ (q : Reply). sets A (4 * n) (answerNumbers (q .answer))) (same .0)
+          ∙ rw (before .answers, place) (put-more (t .answers) _ A₀));
     }
 
 -- ---- planning's answer
 
-ready-zero : (n : ℕ) (p q : PlanNumbers) → planAnswer n p ≡ Ready q → (n ≡ 0) × (q ≡ p)
-ready-zero zero p q e = (refl, sym (cc))
-ready-zero (suc n) p q e = absurd (let z : _≡_ {A = ℕ} 0 1 = cc in omega arith)
+refused-is : (v n : ℕ) (p : PlanNumbers) → planAnswer n p ≡ not-planned v → (n ≡ 0 → ⊥) × (n ≡ v)
+refused-is v zero p e = absurd (let z : _≡_ {A = ℕ} 0 1 = cc in omega arith)
+refused-is v (suc n) p e = (λ z. absurd (omega arith), cc)
 
-refused-answer : (n v : ℕ) (p : PlanNumbers) (r : Run) → planAnswer n p ≡ PlanRefused v → Refused v ≡ replayAnswer n r
-refused-answer zero v p r e = absurd (let z : _≡_ {A = ℕ} 0 1 = cc in omega arith)
-refused-answer (suc n) v p r e =
-    let same : v ≡ suc n = cc in
-    ap Refused same
+outcome-refused : (n v : ℕ) (r : Run) → (n ≡ 0 → ⊥) → n ≡ v → not-played v ≡ outcome n r
+outcome-refused zero v r h e = absurd (h refl)
+outcome-refused (suc n) v r h e = ap not-played (sym e)
 
-refused-keeps : {A : Type 0} (n v : ℕ) (p : PlanNumbers) (new old : A) → planAnswer n p ≡ PlanRefused v → old ≡ unlessRefused n new old
-refused-keeps zero v p new old e = absurd (let z : _≡_ {A = ℕ} 0 1 = cc in omega arith)
-refused-keeps (suc n) v p new old e = refl
+refused-keeps : {A : Type 0} (n : ℕ) (new old : A) → (n ≡ 0 → ⊥) → old ≡ unlessRefused n new old
+refused-keeps zero new old h = absurd (h refl)
+refused-keeps (suc n) new old h = refl
 
 -- ---- what replay hands back and leaves
 
-pub record Finished (x : Planning) (l : Lists) (calls : List Call) (M : List Float) (A : List ℕ) (o : Replayed) (M′ : List Float) (A′ : List ℕ) : Type 0 where
-  pub answer : o ≡ replayed x l calls M
-  pub matrix : M′ ≡ replayedMatrix x l calls M
-  pub answers : A′ ≡ replayedAnswers x l calls M A
-
-abbrev pub planIn : Lists → Plan
-planIn l = record { testDofs = l .testDofs; trialDofs = l .trialDofs; work = l .work }
+pub record Finished (x : Planning) (l : Lists) (entries : Bool) (calls : List Call) (M : List Float) (e : EntryLists) (A : List ℕ)
+    (o : Outcome) (M′ : List Float) (e′ : EntryLists) (A′ : List ℕ) : Type 0 where
+  pub answer : o ≡ replayed x l entries calls M e
+  pub matrix : M′ ≡ replayedMatrix x l entries calls M e
+  pub lists : e′ ≡ replayedLists x l entries calls M e
+  pub answers : A′ ≡ replayedAnswers x l entries calls M e A
 
 -- planning refuses: nothing is played
-pub finished-refused : (x : Planning) (l : Lists) (calls : List Call) (M : List Float) (A : List ℕ) (v : ℕ) → plan x l ≡ PlanRefused v
-    → Finished x l calls M A (Refused v) M A
-unfolding plan replayed replayedMatrix replayedAnswers
-finished-refused x l calls M A v e =
+pub finished-refused : (x : Planning) (l : Lists) (entries : Bool) (calls : List Call) (M : List Float) (e : EntryLists) (A : List ℕ) (v : ℕ) → plan x l ≡ not-planned v
+    → Finished x l entries calls M e A (not-played v) M e A
+unfolding plan replayed replayedMatrix replayedLists replayedAnswers
+finished-refused x l entries calls M e A v p =
+    let r = refused-is v (planRefusal x l) (planNumbers x) p in
     record {
-      answer = refused-answer (planRefusal x l) v (planNumbers x) _ e;
-      matrix = refused-keeps (planRefusal x l) v (planNumbers x) _ M e;
-      answers = refused-keeps (planRefusal x l) v (planNumbers x) _ A e;
+      answer = outcome-refused (planRefusal x l) v _ (r .0) (r .1);
+      matrix = refused-keeps (planRefusal x l) _ M (r .0);
+      lists = refused-keeps (planRefusal x l) _ e (r .0);
+      answers = refused-keeps (planRefusal x l) _ A (r .0);
     }
 
--- planning accepts: the machine's answers, position and matrix
-pub finished-played : (x : Planning) (l l′ : Lists) (calls : List Call) (p : PlanNumbers) (M : List Float) (A : List ℕ) (r : Run) (M′ : List Float) (A′ : List ℕ)
-    → plan x l ≡ Ready p → l′ ≡ planLists x l → 4 * length calls ≤ length A → Going (planIn l′) calls (begin p) M A r M′ A′
-    → Finished x l calls M A (Played r) M′ A′
-unfolding plan replayed replayedMatrix replayedAnswers
-finished-played x l l′ calls p M A r M′ A′ e lists room going =
-    let zero-and = ready-zero (planRefusal x l) (planNumbers x) p e in
-    let same : callAll (planIn l′) calls (begin p) M ≡ embed x (machineRun (machineOf x) calls M) =
-    rw (lists, zero-and .1) (third-property x l (zero-and .0) calls M) in
-    let count : length (machineRun (machineOf x) calls M .answers) ≡ length calls =
-    ap (λ (s : Progress). length (s .answers)) (sym same) ∙ length-answers (planIn l′) calls (begin p) M in
+-- planning accepts: the machine's answers, position, matrix and lists
+finished-played : (x : Planning) (l l′ : Lists) (entries : Bool) (calls : List Call) (p : PlanNumbers) (M : List Float) (e : EntryLists) (A : List ℕ)
+    (r : Run) (M′ : List Float) (e′ : EntryLists) (A′ : List ℕ)
+    → plan x l ≡ ready p → l′ ≡ planLists x l → 4 * length calls ≤ length A → Going (planIn l′) calls (standing (begun entries p) M e) A r M′ e′ A′
+    → Finished x l entries calls M e A (played r) M′ e′ A′
+unfolding replayed replayedMatrix replayedLists replayedAnswers
+finished-played x l l′ entries calls p M e A r M′ e′ A′ z lists room going =
+    let none = ready-is z .none in
+    let same : callAll (planIn l′) calls (begun entries p) M e ≡ embed x entries (machineRun (machineOf x entries) calls M e) =
+    rw lists (machine-beside x l p z entries calls M e) in
+    let count : length (machineRun (machineOf x entries) calls M e .answers) ≡ length calls =
+    ap (λ (s : Progress). length (s .answers)) (sym same) ∙ length-answers (planIn l′) calls (begun entries p) M e in
     record {
-      answer = rw (zero-and .0) (ap Played (going .run ∙ ap (λ (s : Progress). s .run) same));
-      matrix = rw (zero-and .0) (going .matrix ∙ ap (λ (s : Progress). s .matrix) same);
+      answer = rw none (ap played (going .run ∙ ap (λ (s : Progress). s .run) same));
+      matrix = rw none (going .matrix ∙ ap (λ (s : Progress). s .matrix) same);
+      lists = rw none (going .lists ∙ ap (λ (s : Progress). s .lists) same);
       answers =
-          rw (zero-and .0)
-          (going .answers ∙ ap (λ (s : Progress). sets A 0 (flatMap answerNumbers (s .answers))) same ∙ put-all (machineRun (machineOf x) calls M .answers) A (omega arith));
+          rw none
+          (going .answers ∙ ap (λ (s : Progress). sets A 0 (flatMap answerNumbers (s .answers))) same ∙ put-all (machineRun (machineOf x entries) calls M e .answers) A (omega arith));
     }
 
 -- ---- how many calls are played
@@ -226,40 +248,46 @@ call-is calls pool k =
     rw size
 
 -- the kind picks the call
-module _ (l : Plan) (pool : List Float) (call : List ℕ) (r : Run) (M : List Float) (A : List ℕ) (at : ℕ) (r′ : Run) (A′ : List ℕ) where
-  pub stepped-look : (o : Looked) → getD call 0 0 ≡ 0 → o ≡ look r l → r′ ≡ lookedRun o → A′ ≡ sets A at (answerNumbers (lookedAnswer o))
-      → Stepped l (callOf pool call) r M A at r′ M A′
-  unfolding callOf runAfter matrixAfter answerOf
-  stepped-look o k e er eA =
-      rw (eq-eqb (getD call 0 0) 0 k) (record { run = er ∙ ap lookedRun e; matrix = refl; answers = eA ∙ ap (λ (x : Looked). sets A at (answerNumbers (lookedAnswer x))) e })
+module _ (l : Plan) (pool : List Float) (call : List ℕ) (r : Run) (M : List Float) (e : EntryLists) (A : List ℕ) (at : ℕ) (r′ : Run) (A′ : List ℕ) (o : Reply)
+    (run : r′ ≡ o .run) (stored : A′ ≡ sets A at (answerNumbers (o .answer))) where
+  pub stepped-look : getD call 0 0 ≡ 0 → o ≡ look r l → Stepped l (callOf pool call) (standing r M e) A at r′ M e A′
+  unfolding callOf replyTo matrixAfter listsAfter
+  stepped-look k q = rw (eq-eqb (getD call 0 0) 0 k) (record { run = run ∙ ap (λ (g : Reply). g .run) q; matrix = refl; lists = refl; answers = stored ∙ ap (λ (g : Reply). sets A at (answerNumbers (g .answer))) q })
 
-  pub stepped-distant : (M′ : List Float) (o : Added) → (getD call 0 0 ≡ 0 → ⊥) → getD call 0 0 ≡ 1 → o ≡ addDistant r l M (distantIn pool call)
-      → M′ ≡ distantMatrix r l M (distantIn pool call) → r′ ≡ addedRun o → A′ ≡ sets A at (answerNumbers (addedAnswer o)) → Stepped l (callOf pool call) r M A at r′ M′ A′
-  unfolding callOf runAfter matrixAfter answerOf
-  stepped-distant M′ o k j e eM er eA =
-      rw (ne-eqb (getD call 0 0) 0 k, eq-eqb (getD call 0 0) 1 j)
-      (record { run = er ∙ ap addedRun e; matrix = eM; answers = eA ∙ ap (λ (x : Added). sets A at (answerNumbers (addedAnswer x))) e })
+  pub stepped-distant : (M′ : List Float) → (getD call 0 0 ≡ 0 → ⊥) → getD call 0 0 ≡ 1 → o ≡ addDistant r l M (distantIn pool call)
+      → M′ ≡ distantMatrix r l M (distantIn pool call) → Stepped l (callOf pool call) (standing r M e) A at r′ M′ e A′
+  unfolding callOf replyTo matrixAfter listsAfter
+  stepped-distant M′ k₀ k q w =
+      rw (ne-eqb (getD call 0 0) 0 k₀, eq-eqb (getD call 0 0) 1 k) (record { run = run ∙ ap (λ (g : Reply). g .run) q; matrix = w; lists = refl; answers = stored ∙ ap (λ (g : Reply). sets A at (answerNumbers (g .answer))) q })
 
-  pub stepped-touching : (M′ : List Float) (o : Added) → (getD call 0 0 ≡ 0 → ⊥) → (getD call 0 0 ≡ 1 → ⊥) → o ≡ addTouching r l M (touchingIn pool call)
-      → M′ ≡ touchingMatrix r l M (touchingIn pool call) → r′ ≡ addedRun o → A′ ≡ sets A at (answerNumbers (addedAnswer o)) → Stepped l (callOf pool call) r M A at r′ M′ A′
-  unfolding callOf runAfter matrixAfter answerOf
-  stepped-touching M′ o k j e eM er eA =
-      rw (ne-eqb (getD call 0 0) 0 k, ne-eqb (getD call 0 0) 1 j)
-      (record { run = er ∙ ap addedRun e; matrix = eM; answers = eA ∙ ap (λ (x : Added). sets A at (answerNumbers (addedAnswer x))) e })
+  pub stepped-touching : (M′ : List Float) → (getD call 0 0 ≡ 0 → ⊥) → (getD call 0 0 ≡ 1 → ⊥) → getD call 0 0 ≡ 2 → o ≡ addTouching r l M (touchingIn pool call)
+      → M′ ≡ touchingMatrix r l M (touchingIn pool call) → Stepped l (callOf pool call) (standing r M e) A at r′ M′ e A′
+  unfolding callOf replyTo matrixAfter listsAfter
+  stepped-touching M′ k₀ k₁ k q w =
+      rw (ne-eqb (getD call 0 0) 0 k₀, ne-eqb (getD call 0 0) 1 k₁, eq-eqb (getD call 0 0) 2 k) (record { run = run ∙ ap (λ (g : Reply). g .run) q; matrix = w; lists = refl; answers = stored ∙ ap (λ (g : Reply). sets A at (answerNumbers (g .answer))) q })
+
+  pub stepped-entries : (e′ : EntryLists) → (getD call 0 0 ≡ 0 → ⊥) → (getD call 0 0 ≡ 1 → ⊥) → (getD call 0 0 ≡ 2 → ⊥) → o ≡ addEntries r l e (touchingIn pool call)
+      → e′ ≡ entriesWritten r l e (touchingIn pool call) → Stepped l (callOf pool call) (standing r M e) A at r′ M e′ A′
+  unfolding callOf replyTo matrixAfter listsAfter
+  stepped-entries e′ k₀ k₁ k₂ q w =
+      rw (ne-eqb (getD call 0 0) 0 k₀, ne-eqb (getD call 0 0) 1 k₁, ne-eqb (getD call 0 0) 2 k₂) (record { run = run ∙ ap (λ (g : Reply). g .run) q; matrix = refl; lists = w; answers = stored ∙ ap (λ (g : Reply). sets A at (answerNumbers (g .answer))) q })
 
 -- the calls that there is room for, on a run begun from planning's numbers
-pub finished-begun : (x : Planning) (l l′ : Lists) (calls : List ℕ) (pool : List Float) (n : ℕ) (p : PlanNumbers) (b : Run) (M : List Float) (A : List ℕ)
-    (r : Run) (M′ : List Float) (A′ : List ℕ) → plan x l ≡ Ready p → l′ ≡ planLists x l → n ≡ callCount calls A → b ≡ begin p
-    → Going (planIn l′) (callsOf calls pool n) b M A r M′ A′ → Finished x l (callsOf calls pool (callCount calls A)) M A (Played r) M′ A′
-finished-begun x l l′ calls pool n p b M A r M′ A′ e lists count begun going =
-    let room : 4 * length (callsOf calls pool (callCount calls A)) ≤ length A = rw (length-calls calls pool (callCount calls A)) (count-fits calls A .1) in
-    finished-played x l l′ (callsOf calls pool (callCount calls A)) p M A r M′ A′ e lists room (rw (count, begun) at going)
+pub finished-begun : (x : Planning) (l l′ : Lists) (entries : Bool) (calls : List ℕ) (pool : List Float) (n : ℕ) (p : PlanNumbers) (b : Run) (M : List Float) (e : EntryLists)
+    (A : List ℕ) (r : Run) (M′ : List Float) (e′ : EntryLists) (A′ : List ℕ) → plan x l ≡ ready p → l′ ≡ planLists x l → n ≡ callCount calls A → b ≡ begun entries p
+    → Going (planIn l′) (callsOf calls pool n) (standing b M e) A r M′ e′ A′
+    → Finished x l entries (callsOf calls pool (callCount calls A)) M e A (played r) M′ e′ A′
+finished-begun x l l′ entries calls pool n p b M e A r M′ e′ A′ z lists count start going =
+    finished-played x l l′ entries (callsOf calls pool (callCount calls A)) p M e A r M′ e′ A′ z lists (omega (arith, length-calls calls pool (callCount calls A), count-fits calls A .1)) (rw (count, start) at going)
 
+-- room for the calls and their answers
 pub count-room : (calls answers : List ℕ) (n : ℕ) → n ≡ callCount calls answers → (11 * n ≤ length calls) × (4 * n ≤ length answers)
 count-room calls answers n e = rw e (count-fits calls answers)
 
--- the four parts of the contract
-pub finished-parts : {x : Planning} {l l′ : Lists} {calls : List Call} {M : List Float} {A : List ℕ} {o : Replayed} {M′ : List Float} {A′ : List ℕ}
-    → Finished x l calls M A o M′ A′ → l′ ≡ planLists x l
-    → (o ≡ replayed x l calls M) × ((M′ ≡ replayedMatrix x l calls M) × ((A′ ≡ replayedAnswers x l calls M A) × (l′ ≡ planLists x l)))
-finished-parts f lists = (f .answer, (f .matrix, (f .answers, lists)))
+-- the parts of the contract
+pub finished-parts : {x : Planning} {l l′ : Lists} {entries : Bool} {calls : List Call} {M : List Float} {e : EntryLists} {A : List ℕ}
+    {o : Outcome} {M′ : List Float} {e′ : EntryLists} {A′ : List ℕ}
+    → Finished x l entries calls M e A o M′ e′ A′ → l′ ≡ planLists x l
+    → (o ≡ replayed x l entries calls M e)
+    × ((M′ ≡ replayedMatrix x l entries calls M e) × ((e′ ≡ replayedLists x l entries calls M e) × ((A′ ≡ replayedAnswers x l entries calls M e A) × (l′ ≡ planLists x l))))
+finished-parts f lists = (f .answer, (f .matrix, (f .lists, (f .answers, lists))))

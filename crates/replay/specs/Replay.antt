@@ -1,30 +1,49 @@
--- What `replay` hands back and leaves: the position, the matrix and the answers of the machine of the mesh; nothing is played where planning refuses.
--- Assumes nothing.
+-- What `replay` hands back and leaves: the position, the matrix, the entry lists and the answers of the machine of the mesh; nothing is played where planning
+-- refuses. Assumes nothing.
 use Prim.Native.Nat.{ℕ, zero, suc}
+use mathlib.Core.Bool.{Bool}
 use mathlib.Core.List.{List}
 use lib.Ieee.{Float}
-use Rattle.boundary_assemblers.specs.declared.Run.{Run}
-use Rattle.boundary_assemblers.specs.Planning.{Planning, Lists, planRefusal, unlessRefused}
-use Rattle.boundary_assemblers.specs.Machine.{Call, machineOf, machineRun}
-use Rattle.boundary_assemblers.specs.Whole.{runAt}
+use Rattle.plans.specs.Planning.{Planning, Lists, planRefusal, unlessRefused}
+use Rattle.runs.specs.Runs.{Run, EntryLists}
+use Rattle.runs.specs.Calls.{Call}
+use Rattle.runs.specs.Machine.{State, machineOf, machineRun}
+use Rattle.runs.specs.Beside.{runAt}
+use Rattle.boundary_assemblers.specs.Forms.{runOf}
 use Rattle.replay.specs.declared.Replayed.{Replayed}
 use Rattle.replay.specs.declared.Replayed.the-variants.{Played, Refused}
 use Rattle.replay.specs.Encoding.{putAnswers}
 
+-- What it answers: the run after the last call, or planning's refusal
+pub data Outcome : Type 0 where
+  played : Run → Outcome
+  refused : ℕ → Outcome
+
+-- for each case of the enum
+abbrev pub outcomeOf : Replayed → Outcome
+outcomeOf (Played r) = played (runOf r)
+outcomeOf (Refused n) = refused n
+
 -- 0 is no refusal
-abbrev pub replayAnswer : ℕ → Run → Replayed
-replayAnswer zero r = Played r
-replayAnswer (suc n) r = Refused (suc n)
+abbrev pub outcome : ℕ → Run → Outcome
+outcome zero r = played r
+outcome (suc n) r = refused (suc n)
 
-module _ (x : Planning) (l : Lists) (calls : List Call) (M : List Float) where
-  -- the dense run at the machine's position, or planning's refusal
-  unfoldable pub replayed : Replayed
-  replayed = replayAnswer (planRefusal x l) (runAt x (machineRun (machineOf x) calls M .position))
+-- of a run of either kind
+module _ (x : Planning) (l : Lists) (entries : Bool) (calls : List Call) (M : List Float) (lists : EntryLists) where
+  abbrev pub ended : State
+  ended = machineRun (machineOf x entries) calls M lists
 
-  -- the machine's matrix
+  -- the run at the machine's position, or planning's refusal
+  unfoldable pub replayed : Outcome
+  replayed = outcome (planRefusal x l) (runAt x entries (ended .position))
+
+  -- the machine's matrix, entry lists and answers
   unfoldable pub replayedMatrix : List Float
-  replayedMatrix = unlessRefused (planRefusal x l) (machineRun (machineOf x) calls M .matrix) M
+  replayedMatrix = unlessRefused (planRefusal x l) (ended .matrix) M
 
-  -- the machine's answers
+  unfoldable pub replayedLists : EntryLists
+  replayedLists = unlessRefused (planRefusal x l) (ended .lists) lists
+
   unfoldable pub replayedAnswers : List ℕ → List ℕ
-  replayedAnswers before = unlessRefused (planRefusal x l) (putAnswers (machineRun (machineOf x) calls M .answers) before) before
+  replayedAnswers before = unlessRefused (planRefusal x l) (putAnswers (ended .answers) before) before

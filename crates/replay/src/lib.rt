@@ -1,6 +1,7 @@
 // Plays a whole list of calls on one run, begun from planning. The calls are encoded as numbers, and their lent lists are parts of one pool.
 use boundary_assemblers::Added;
 use boundary_assemblers::Looked;
+use boundary_assemblers::PlanNumbers;
 use boundary_assemblers::Planned;
 use boundary_assemblers::Run;
 use function::Element;
@@ -11,13 +12,12 @@ ghost use mathlib.Core.List.{[], _∷_};
 ghost use Prim.Native.Nat.{_+_, _*_, _≤_, _<_};
 ghost use lib.ListN.{length};
 ghost use lib.Seq.{sets};
-ghost use Rattle.boundary_assemblers.specs.Planning.{planLists};
-ghost use Rattle.boundary_assemblers.specs.Runs.{addDistant, distantMatrix, addTouching, touchingMatrix, lookedAnswer, lookedRun, addedAnswer, addedRun};
-ghost use Rattle.boundary_assemblers.specs.RunFacts.{plan};
-ghost use Rattle.planning.specs.Arguments.{meshOf, planningOf, listsOf};
+ghost use Rattle.plans.specs.Planning.{meshOf, planningOf, listsOf, planLists};
+ghost use Rattle.runs.specs.Runs.{planOf, entryLists, begun, addDistant, distantMatrix, addTouching, touchingMatrix, addEntries, entriesWritten};
+ghost use Rattle.boundary_assemblers.specs.Forms.{numbersOf, runOf, lookedOf, addedOf};
 ghost use Rattle.replay.specs.Encoding.{partOf, listIn, distantIn, touchingIn, callOf, callsOf, callCount, answerNumbers};
-ghost use Rattle.replay.specs.Replay.{replayed, replayedMatrix, replayedAnswers};
-ghost use Rattle.replay.specs.Laws.{Stepped, Going};
+ghost use Rattle.replay.specs.Replay.{outcomeOf, replayed, replayedMatrix, replayedLists, replayedAnswers};
+ghost use Rattle.replay.specs.Laws.{standing, Stepped, Going};
 
 // What replay hands back: the run after the last call, or planning's refusal.
 pub enum Replayed {
@@ -56,8 +56,8 @@ fn play_distant(
     matrix: &mut [f64],
 ) -> Added
     requires { ⌜ length (now call) ≡ 11 ⌝ }
-    ensures { λ r. ⌜ r ≡ addDistant run (plan (now («test_dofs» .entry)) (now («trial_dofs» .entry)) (now (work .entry))) (now (matrix .entry)) (distantIn (now (pool .entry)) (now (call .entry))) ⌝ }
-    ensures { λ _. ⌜ now (matrix .exit) ≡ distantMatrix run (plan (now («test_dofs» .entry)) (now («trial_dofs» .entry)) (now (work .entry))) (now (matrix .entry)) (distantIn (now (pool .entry)) (now (call .entry))) ⌝ }
+    ensures { λ r. ⌜ addedOf r ≡ addDistant (runOf run) (planOf (now («test_dofs» .entry)) (now («trial_dofs» .entry)) (now (work .entry))) (now (matrix .entry)) (distantIn (now (pool .entry)) (now (call .entry))) ⌝ }
+    ensures { λ _. ⌜ now (matrix .exit) ≡ distantMatrix (runOf run) (planOf (now («test_dofs» .entry)) (now («trial_dofs» .entry)) (now (work .entry))) (now (matrix .entry)) (distantIn (now (pool .entry)) (now (call .entry))) ⌝ }
 {
     run.add_distant(
         test_dofs,
@@ -87,8 +87,8 @@ fn play_touching(
     matrix: &mut [f64],
 ) -> Added
     requires { ⌜ length (now call) ≡ 11 ⌝ }
-    ensures { λ r. ⌜ r ≡ addTouching run (plan (now («test_dofs» .entry)) (now («trial_dofs» .entry)) (now (work .entry))) (now (matrix .entry)) (touchingIn (now (pool .entry)) (now (call .entry))) ⌝ }
-    ensures { λ _. ⌜ now (matrix .exit) ≡ touchingMatrix run (plan (now («test_dofs» .entry)) (now («trial_dofs» .entry)) (now (work .entry))) (now (matrix .entry)) (touchingIn (now (pool .entry)) (now (call .entry))) ⌝ }
+    ensures { λ r. ⌜ addedOf r ≡ addTouching (runOf run) (planOf (now («test_dofs» .entry)) (now («trial_dofs» .entry)) (now (work .entry))) (now (matrix .entry)) (touchingIn (now (pool .entry)) (now (call .entry))) ⌝ }
+    ensures { λ _. ⌜ now (matrix .exit) ≡ touchingMatrix (runOf run) (planOf (now («test_dofs» .entry)) (now («trial_dofs» .entry)) (now (work .entry))) (now (matrix .entry)) (touchingIn (now (pool .entry)) (now (call .entry))) ⌝ }
 {
     run.add_touching(
         test_dofs,
@@ -102,6 +102,41 @@ fn play_touching(
         list_in(pool, call, 4),
         list_in(pool, call, 5),
         matrix,
+    )
+}
+
+// The entries call that the call's numbers encode.
+fn play_entries(
+    run: Run,
+    test_dofs: &[u32],
+    trial_dofs: &[u32],
+    work: &[u32],
+    call: &[usize],
+    pool: &[f64],
+    rows: &mut [u32],
+    columns: &mut [u32],
+    values: &mut [f64],
+) -> Added
+    requires { ⌜ length (now call) ≡ 11 ⌝ }
+    ensures { λ r. ⌜ addedOf r ≡ addEntries (runOf run) (planOf (now («test_dofs» .entry)) (now («trial_dofs» .entry)) (now (work .entry)))
+        (entryLists (now (rows .entry)) (now (columns .entry)) (now (values .entry))) (touchingIn (now (pool .entry)) (now (call .entry))) ⌝ }
+    ensures { λ _. ⌜ entryLists (now (rows .exit)) (now (columns .exit)) (now (values .exit)) ≡ entriesWritten (runOf run) (planOf (now («test_dofs» .entry)) (now («trial_dofs» .entry)) (now (work .entry)))
+        (entryLists (now (rows .entry)) (now (columns .entry)) (now (values .entry))) (touchingIn (now (pool .entry)) (now (call .entry))) ⌝ }
+{
+    run.add_entries(
+        test_dofs,
+        trial_dofs,
+        work,
+        call[1],
+        list_in(pool, call, 0),
+        list_in(pool, call, 1),
+        list_in(pool, call, 2),
+        list_in(pool, call, 3),
+        list_in(pool, call, 4),
+        list_in(pool, call, 5),
+        rows,
+        columns,
+        values,
     )
 }
 
@@ -119,12 +154,12 @@ fn put_four(answers: &mut [u32], at: usize, a: u32, b: u32, c: u32, d: u32)
 // Stores what look answers, and gives the run back.
 fn put_looked(looked: Looked, answers: &mut [u32], at: usize) -> Run
     requires { ⌜ at + 4 ≤ length (now answers) ⌝ }
-    ensures { λ r. ⌜ r ≡ lookedRun looked ⌝ }
-    ensures { λ _. ⌜ now (answers .exit) ≡ sets (now (answers .entry)) at (answerNumbers (lookedAnswer looked)) ⌝ }
+    ensures { λ r. ⌜ runOf r ≡ lookedOf looked .run ⌝ }
+    ensures { λ _. ⌜ now (answers .exit) ≡ sets (now (answers .entry)) at (answerNumbers (lookedOf looked .answer)) ⌝ }
 {
     match looked {
         Looked::Found(r, e) => {
-            put_four(answers, at, 0, e.pattern, e.test_cell, e.trial_cell);
+            put_four(answers, at, 0, e.pattern, e.test, e.trial);
             r
         }
         Looked::Refused(r, n) => {
@@ -137,8 +172,8 @@ fn put_looked(looked: Looked, answers: &mut [u32], at: usize) -> Run
 // Stores what an add answers, and gives the run back.
 fn put_added(added: Added, answers: &mut [u32], at: usize) -> Run
     requires { ⌜ at + 4 ≤ length (now answers) ⌝ }
-    ensures { λ r. ⌜ r ≡ addedRun added ⌝ }
-    ensures { λ _. ⌜ now (answers .exit) ≡ sets (now (answers .entry)) at (answerNumbers (addedAnswer added)) ⌝ }
+    ensures { λ r. ⌜ runOf r ≡ addedOf added .run ⌝ }
+    ensures { λ _. ⌜ now (answers .exit) ≡ sets (now (answers .entry)) at (answerNumbers (addedOf added .answer)) ⌝ }
 {
     match added {
         Added::Accepted(r) => {
@@ -161,12 +196,16 @@ fn play_call(
     call: &[usize],
     pool: &[f64],
     matrix: &mut [f64],
+    rows: &mut [u32],
+    columns: &mut [u32],
+    values: &mut [f64],
     answers: &mut [u32],
     at: usize,
 ) -> Run
     requires { ⌜ (length (now call) ≡ 11) × (at + 4 ≤ length (now answers)) ⌝ }
-    ensures { λ r. ⌜ Stepped (plan (now («test_dofs» .entry)) (now («trial_dofs» .entry)) (now (work .entry))) (callOf (now (pool .entry)) (now (call .entry)))
-        run (now (matrix .entry)) (now (answers .entry)) at r (now (matrix .exit)) (now (answers .exit)) ⌝ }
+    ensures { λ r. ⌜ Stepped (planOf (now («test_dofs» .entry)) (now («trial_dofs» .entry)) (now (work .entry))) (callOf (now (pool .entry)) (now (call .entry)))
+        (standing (runOf run) (now (matrix .entry)) (entryLists (now (rows .entry)) (now (columns .entry)) (now (values .entry)))) (now (answers .entry)) at (runOf r) (now (matrix .exit))
+        (entryLists (now (rows .exit)) (now (columns .exit)) (now (values .exit))) (now (answers .exit)) ⌝ }
 {
     if call[0] == 0 {
         return put_looked(run.look(test_dofs, trial_dofs, work), answers, at);
@@ -178,8 +217,25 @@ fn play_call(
             at,
         );
     }
+    if call[0] == 2 {
+        return put_added(
+            play_touching(run, test_dofs, trial_dofs, work, call, pool, matrix),
+            answers,
+            at,
+        );
+    }
     put_added(
-        play_touching(run, test_dofs, trial_dofs, work, call, pool, matrix),
+        play_entries(
+            run,
+            test_dofs,
+            trial_dofs,
+            work,
+            call,
+            pool,
+            rows,
+            columns,
+            values,
+        ),
         answers,
         at,
     )
@@ -195,11 +251,15 @@ fn play_calls(
     pool: &[f64],
     n: usize,
     matrix: &mut [f64],
+    rows: &mut [u32],
+    columns: &mut [u32],
+    values: &mut [f64],
     answers: &mut [u32],
 ) -> Run
     requires { ⌜ (11 * n ≤ length (now calls)) × (4 * n ≤ length (now answers)) ⌝ }
-    ensures { λ r. ⌜ Going (plan (now («test_dofs» .entry)) (now («trial_dofs» .entry)) (now (work .entry))) (callsOf (now (calls .entry)) (now (pool .entry)) n)
-        run (now (matrix .entry)) (now (answers .entry)) r (now (matrix .exit)) (now (answers .exit)) ⌝ }
+    ensures { λ r. ⌜ Going (planOf (now («test_dofs» .entry)) (now («trial_dofs» .entry)) (now (work .entry))) (callsOf (now (calls .entry)) (now (pool .entry)) n)
+        (standing (runOf run) (now (matrix .entry)) (entryLists (now (rows .entry)) (now (columns .entry)) (now (values .entry)))) (now (answers .entry)) (runOf r) (now (matrix .exit))
+        (entryLists (now (rows .exit)) (now (columns .exit)) (now (values .exit))) (now (answers .exit)) ⌝ }
 {
     let mut r = run;
     for k in 0..n {
@@ -214,6 +274,9 @@ fn play_calls(
             call,
             pool,
             matrix,
+            rows,
+            columns,
+            values,
             answers,
             4 * k,
         );
@@ -233,7 +296,17 @@ fn call_count(calls: &[usize], answers: &[u32]) -> usize
     room
 }
 
-// Plans, begins a dense run and plays the calls on it, as many as there is room to answer; plays nothing where planning refuses.
+// A run of either kind.
+fn begin_run(numbers: PlanNumbers, entries: bool) -> Run
+    ensures { λ r. ⌜ runOf r ≡ begun entries (numbersOf numbers) ⌝ }
+{
+    if entries {
+        return numbers.begin_entries();
+    }
+    numbers.begin()
+}
+
+// Plans, begins a run, of entries or dense, and plays the calls on it, as many as there is room to answer; plays nothing where planning refuses.
 pub fn replay(
     cells: u32,
     vertices: u32,
@@ -251,20 +324,27 @@ pub fn replay(
     test_owners: &mut [u32],
     trial_owners: &mut [u32],
     work: &mut [u32],
+    entries: bool,
     calls: &[usize],
     pool: &[f64],
     matrix: &mut [f64],
+    rows: &mut [u32],
+    columns: &mut [u32],
+    values: &mut [f64],
     answers: &mut [u32],
 ) -> Replayed
-    ensures { λ r. ⌜ r ≡ replayed (planningOf (meshOf cells vertices edges (now («cell_vertices» .entry)) (now («cell_edges» .entry))) test trial batch integrand)
-        (listsOf (now («test_dofs» .entry)) (now («trial_dofs» .entry)) (now («test_colours» .entry)) (now («trial_colours» .entry)) (now («test_owners» .entry)) (now («trial_owners» .entry)) (now (work .entry)))
-        (callsOf (now (calls .entry)) (now (pool .entry)) (callCount (now (calls .entry)) (now (answers .entry)))) (now (matrix .entry)) ⌝ }
+    ensures { λ r. ⌜ outcomeOf r ≡ replayed (planningOf (meshOf cells vertices edges (now («cell_vertices» .entry)) (now («cell_edges» .entry))) test trial batch integrand)
+        (listsOf (now («test_dofs» .entry)) (now («trial_dofs» .entry)) (now («test_colours» .entry)) (now («trial_colours» .entry)) (now («test_owners» .entry)) (now («trial_owners» .entry)) (now (work .entry))) entries
+        (callsOf (now (calls .entry)) (now (pool .entry)) (callCount (now (calls .entry)) (now (answers .entry)))) (now (matrix .entry)) (entryLists (now (rows .entry)) (now (columns .entry)) (now (values .entry))) ⌝ }
     ensures { λ _. ⌜ now (matrix .exit) ≡ replayedMatrix (planningOf (meshOf cells vertices edges (now («cell_vertices» .entry)) (now («cell_edges» .entry))) test trial batch integrand)
-        (listsOf (now («test_dofs» .entry)) (now («trial_dofs» .entry)) (now («test_colours» .entry)) (now («trial_colours» .entry)) (now («test_owners» .entry)) (now («trial_owners» .entry)) (now (work .entry)))
-        (callsOf (now (calls .entry)) (now (pool .entry)) (callCount (now (calls .entry)) (now (answers .entry)))) (now (matrix .entry)) ⌝ }
+        (listsOf (now («test_dofs» .entry)) (now («trial_dofs» .entry)) (now («test_colours» .entry)) (now («trial_colours» .entry)) (now («test_owners» .entry)) (now («trial_owners» .entry)) (now (work .entry))) entries
+        (callsOf (now (calls .entry)) (now (pool .entry)) (callCount (now (calls .entry)) (now (answers .entry)))) (now (matrix .entry)) (entryLists (now (rows .entry)) (now (columns .entry)) (now (values .entry))) ⌝ }
+    ensures { λ _. ⌜ entryLists (now (rows .exit)) (now (columns .exit)) (now (values .exit)) ≡ replayedLists (planningOf (meshOf cells vertices edges (now («cell_vertices» .entry)) (now («cell_edges» .entry))) test trial batch integrand)
+        (listsOf (now («test_dofs» .entry)) (now («trial_dofs» .entry)) (now («test_colours» .entry)) (now («trial_colours» .entry)) (now («test_owners» .entry)) (now («trial_owners» .entry)) (now (work .entry))) entries
+        (callsOf (now (calls .entry)) (now (pool .entry)) (callCount (now (calls .entry)) (now (answers .entry)))) (now (matrix .entry)) (entryLists (now (rows .entry)) (now (columns .entry)) (now (values .entry))) ⌝ }
     ensures { λ _. ⌜ now (answers .exit) ≡ replayedAnswers (planningOf (meshOf cells vertices edges (now («cell_vertices» .entry)) (now («cell_edges» .entry))) test trial batch integrand)
-        (listsOf (now («test_dofs» .entry)) (now («trial_dofs» .entry)) (now («test_colours» .entry)) (now («trial_colours» .entry)) (now («test_owners» .entry)) (now («trial_owners» .entry)) (now (work .entry)))
-        (callsOf (now (calls .entry)) (now (pool .entry)) (callCount (now (calls .entry)) (now (answers .entry)))) (now (matrix .entry)) (now (answers .entry)) ⌝ }
+        (listsOf (now («test_dofs» .entry)) (now («trial_dofs» .entry)) (now («test_colours» .entry)) (now («trial_colours» .entry)) (now («test_owners» .entry)) (now («trial_owners» .entry)) (now (work .entry))) entries
+        (callsOf (now (calls .entry)) (now (pool .entry)) (callCount (now (calls .entry)) (now (answers .entry)))) (now (matrix .entry)) (entryLists (now (rows .entry)) (now (columns .entry)) (now (values .entry))) (now (answers .entry)) ⌝ }
     ensures { λ _. ⌜ listsOf (now («test_dofs» .exit)) (now («trial_dofs» .exit)) (now («test_colours» .exit)) (now («trial_colours» .exit)) (now («test_owners» .exit)) (now («trial_owners» .exit)) (now (work .exit))
         ≡ planLists (planningOf (meshOf cells vertices edges (now («cell_vertices» .entry)) (now («cell_edges» .entry))) test trial batch integrand)
         (listsOf (now («test_dofs» .entry)) (now («trial_dofs» .entry)) (now («test_colours» .entry)) (now («trial_colours» .entry)) (now («test_owners» .entry)) (now («trial_owners» .entry)) (now (work .entry))) ⌝ }
@@ -292,7 +372,7 @@ pub fn replay(
         Planned::Ready(numbers) => {
             let n = call_count(calls, answers);
             let run = play_calls(
-                numbers.begin(),
+                begin_run(numbers, entries),
                 test_dofs,
                 trial_dofs,
                 work,
@@ -300,6 +380,9 @@ pub fn replay(
                 pool,
                 n,
                 matrix,
+                rows,
+                columns,
+                values,
                 answers,
             );
             Replayed::Played(run)

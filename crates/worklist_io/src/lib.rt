@@ -2,8 +2,10 @@
 // the first 7 bytes say how long a job is, and one byte more than that is read, to see that it is not longer.
 use grid::wide;
 use job::HeadRead;
+use job::MOST_WORKLIST_CELLS;
 use job::read_head;
 use job::size_refusal;
+use job_text::MOST_TEXT;
 use job_text::refused_text;
 use job_text::worklist_text;
 use libc::STDIN_FILENO;
@@ -11,11 +13,14 @@ use libc::STDOUT_FILENO;
 ghost use mathlib.Core.Path.{_≡_};
 ghost use Prim.Native.Nat.{_+_, _*_, _≤_, min};
 ghost use lib.ListN.{length, take};
-ghost use Rattle.job.specs.declared.HeadRead.the-variants.{Cells};
-ghost use Rattle.job.specs.Head.{readHead, sizeRefusal};
+ghost use Rattle.job.specs.Job.{mostWorklistCells};
+ghost use Rattle.job.specs.Head.{readHead, Says, sizeRefusal};
 ghost use Rattle.job_text.specs.Text.{refusedLine, worklist};
 ghost use Rattle.job_text.specs.PlannedText.{Printed};
-ghost use Rattle.worklist_io.specs.Answers.{Shown, Answers};
+ghost use Rattle.worklist_io.specs.Answers.{mostBytes, Shown, Answers};
+
+// The most bytes that are kept: one more than the largest job has.
+const MOST_BYTES: usize = 20 + 12 * (MOST_WORKLIST_CELLS as usize);
 
 // How many bytes came; how many of them, the first, stand in the list that they were read into; and how long the text is.
 struct Answered {
@@ -55,7 +60,7 @@ fn skip(piece: &mut [u8], n: usize) -> usize
 }
 
 // The text of the first n bytes.
-fn text_of(bytes: &[u8], n: usize, text: &mut [u8; 49152]) -> usize
+fn text_of(bytes: &[u8], n: usize, text: &mut [u8; MOST_TEXT]) -> usize
     requires { ⌜ n ≤ length (now bytes) ⌝ }
     ensures { λ r. ⌜ Printed (now (text .entry)) (now (text .exit)) r (worklist (take n (now (bytes .entry)))) ⌝ }
 {
@@ -63,8 +68,8 @@ fn text_of(bytes: &[u8], n: usize, text: &mut [u8; 49152]) -> usize
 }
 
 // The text of a job of at most 64 cells, whose first 7 bytes are read.
-fn small_text(bytes: &mut [u8], cells: u32, text: &mut [u8; 49152]) -> Answered
-    requires { ⌜ (cells ≤ 64) × (788 ≤ length (now bytes)) × (readHead (take 7 (now bytes)) ≡ Cells cells) ⌝ }
+fn small_text(bytes: &mut [u8], cells: u32, text: &mut [u8; MOST_TEXT]) -> Answered
+    requires { ⌜ (cells ≤ mostWorklistCells) × (mostBytes ≤ length (now bytes)) × (Says (readHead (take 7 (now bytes))) cells) ⌝ }
     ensures { λ r. ⌜ Answers (now (bytes .exit)) (now (text .exit)) r ⌝ }
 {
     let came = 7 + read_some(&mut bytes[7..], 13 + 12 * wide(cells));
@@ -77,7 +82,7 @@ fn small_text(bytes: &mut [u8], cells: u32, text: &mut [u8; 49152]) -> Answered
 }
 
 // The text `refused n`, where so many bytes came and are kept.
-fn refused_answer(n: u32, came: usize, kept: usize, text: &mut [u8; 49152]) -> Answered
+fn refused_answer(n: u32, came: usize, kept: usize, text: &mut [u8; MOST_TEXT]) -> Answered
     ensures { λ r. ⌜ (r .came ≡ came) × (r .kept ≡ kept) × Shown (now (text .exit)) (r .text) (refusedLine n) ⌝ }
 {
     let shown = refused_text(n, text);
@@ -89,8 +94,8 @@ fn refused_answer(n: u32, came: usize, kept: usize, text: &mut [u8; 49152]) -> A
 }
 
 // The text of a job of more than 64 cells, whose first 7 bytes are read: the others are not kept.
-fn large_text(cells: u32, text: &mut [u8; 49152]) -> Answered
-    ensures { λ r. ⌜ (r .came ≤ 20 + 12 * cells) × (r .kept ≡ 7) × Shown (now (text .exit)) (r .text) (refusedLine (sizeRefusal cells (r .came))) ⌝ }
+fn large_text(cells: u32, text: &mut [u8; MOST_TEXT]) -> Answered
+    ensures { λ r. ⌜ (7 ≤ r .came) × (r .came ≤ 20 + 12 * cells) × (r .kept ≡ 7) × Shown (now (text .exit)) (r .text) (refusedLine (sizeRefusal cells (r .came))) ⌝ }
 {
     let came = 7 + skip(text, 13 + 12 * wide(cells));
     let refused = size_refusal(cells, came);
@@ -98,11 +103,11 @@ fn large_text(cells: u32, text: &mut [u8; 49152]) -> Answered
 }
 
 // The text of a job of so many cells, whose first 7 bytes are read.
-fn text_by_cells(bytes: &mut [u8], cells: u32, text: &mut [u8; 49152]) -> Answered
-    requires { ⌜ (788 ≤ length (now bytes)) × (readHead (take 7 (now bytes)) ≡ Cells cells) ⌝ }
+fn text_by_cells(bytes: &mut [u8], cells: u32, text: &mut [u8; MOST_TEXT]) -> Answered
+    requires { ⌜ (mostBytes ≤ length (now bytes)) × (Says (readHead (take 7 (now bytes))) cells) ⌝ }
     ensures { λ r. ⌜ Answers (now (bytes .exit)) (now (text .exit)) r ⌝ }
 {
-    if cells <= 64 {
+    if cells <= MOST_WORKLIST_CELLS {
         return small_text(bytes, cells, text);
     }
     large_text(cells, text)
@@ -117,8 +122,8 @@ fn head_of(bytes: &[u8], n: usize) -> HeadRead
 }
 
 // The text of what standard input holds.
-fn answer(bytes: &mut [u8], text: &mut [u8; 49152]) -> Answered
-    requires { ⌜ 788 ≤ length (now bytes) ⌝ }
+fn answer(bytes: &mut [u8], text: &mut [u8; MOST_TEXT]) -> Answered
+    requires { ⌜ mostBytes ≤ length (now bytes) ⌝ }
     ensures { λ r. ⌜ Answers (now (bytes .exit)) (now (text .exit)) r ⌝ }
 {
     let got = read_some(bytes, 7);
@@ -139,8 +144,8 @@ fn print(text: &[u8], n: usize)
 }
 
 // Answers, and prints the answer.
-fn run(bytes: &mut [u8], text: &mut [u8; 49152])
-    requires { ⌜ 788 ≤ length (now bytes) ⌝ }
+fn run(bytes: &mut [u8], text: &mut [u8; MOST_TEXT])
+    requires { ⌜ mostBytes ≤ length (now bytes) ⌝ }
 {
     let answered = answer(bytes, text);
     print(text, answered.text);
@@ -148,7 +153,7 @@ fn run(bytes: &mut [u8], text: &mut [u8; 49152])
 
 // The whole of the program `worklist`.
 pub fn answer_standard_input() {
-    let mut bytes = [0u8; 788];
-    let mut text = [0u8; 49152];
+    let mut bytes = [0u8; MOST_BYTES];
+    let mut text = [0u8; MOST_TEXT];
     run(&mut bytes, &mut text);
 }

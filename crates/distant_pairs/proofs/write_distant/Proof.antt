@@ -1,35 +1,28 @@
 -- `distant_pairs::write_distant` meets its contract. The invariant of its loop: the records of the first c test colours are written. Assumes nothing.
-use Prim.Native.Nat.{_-_, _+_, _<_}
+use Prim.Native.Nat.{_-_}
 use native.Mathlib.Omega.{arith}
 use lib.ListN.{length}
 use Rattle.lists.specs.Writes.{Turns, turns-start, turns-room, turns-turn, turns-done, wrote-length}
-use Rattle.pair_counts.specs.Records.{records}
-use Rattle.cell_groups.specs.Groups.{part}
+use Rattle.work_records.specs.Laws.{records}
+use Rattle.cells_by_key.specs.Groups.{part}
 use Rattle.distant_pairs.specs.Distant.{distantRest, distantParts}
 use Rattle.distant_pairs.proofs.write_distant.Statement.{statement}
 use Rattle.distant_pairs.proofs.write_distant.Tie as tie
 
 abbrev Inv-loop : tie.InvT-loop
-Inv-loop vertices batch test-order test-starts trial-order trial-starts work₀ n next₀ c₀ work next c =
-    Turns records (λ c. distantRest vertices batch (part test-order test-starts c) trial-order trial-starts) (length test-starts - 1) work₀ work 0 next c
+Inv-loop vertices batch test-order test-ends trial-order trial-ends work₀ n next₀ c₀ work next c =
+    Turns records (λ c. distantRest vertices batch (part test-order test-ends c) trial-order trial-ends) (length test-ends) work₀ work 0 next c
 
 abbrev μ-loop : tie.MeasureT-loop
-μ-loop vertices batch test-order test-starts trial-order trial-starts work₀ n next₀ c₀ work next c = n - c
-
-sub-n : tie.Need-sub-n Inv-loop μ-loop
-sub-n c = omega arith
+μ-loop vertices batch test-order test-ends trial-order trial-ends work₀ n next₀ c₀ work next c = n - c
 
 loop-holds : tie.Need-loop-holds Inv-loop μ-loop
 loop-holds c = turns-start _ _ _ _
 
--- a turn's part is one of them
-below : (c : tie.In-loop Inv-loop μ-loop) → c .before .loop .c + 1 < length (c .before .before .before .before .before .before .before .before .args .test-starts .now)
-below c = omega arith
-
 part-of-requires : tie.Need-part-of-requires Inv-loop μ-loop
 part-of-requires c κs =
     let cut = c .before .before .before .before .before .before .before .before .pre .1 .0 in
-    let h = below c in
+    let h = c .loop-test .taken in
     (h, (cut .rise _ h, cut .within _ h))
 
 write-rest-requires : tie.Need-write-rest-requires Inv-loop μ-loop
@@ -37,8 +30,9 @@ unfolding distantParts
 write-rest-requires c κs =
     let l = c .before .before .before in
     let pre = l .before .before .before .before .before .before .before .pre in
-    let room = turns-room (l .loop .inv) (c .before .before .loop-test .taken) (pre .1 .1 .1 .1) in
-    rw (c .before .part-of .ensures) (pre .0, (pre .1 .0 .cells _ (below (c .before .before)), (pre .1 .1 .0, (pre .1 .1 .1 .0 .1, room))))
+    let h = c .before .before .loop-test .taken in
+    let room = turns-room (l .loop .inv) h (pre .1 .1 .1) in
+    rw (c .before .part-of .ensures) (pre .0, (pre .1 .0 .cells _ h, (pre .1 .1 .0, room)))
 
 add-c : tie.Need-add-c Inv-loop μ-loop
 add-c c = omega arith
@@ -64,7 +58,6 @@ write-distant-spec =
     (tie.spec
     Inv-loop
     μ-loop
-    sub-n
     loop-holds
     part-of-requires
     write-rest-requires

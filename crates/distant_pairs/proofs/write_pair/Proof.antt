@@ -11,8 +11,8 @@ wide-requires c κs = search needs
 has-one-of-requires : tie.Need-has-one-of-requires
 has-one-of-requires c κs = search needs
 
-push-requires : tie.Need-push-requires
-push-requires c κs =
+put-record-requires : tie.Need-put-record-requires
+put-record-requires c κs =
     let s = c .before .before in
     let pre = s .before .before .before .before .pre in
     rw (pair-one (pre .1 .0) (s .before .wide .ensures) (s .has-one-of .ensures) (c .before .if1 .left)) at (pre .1 .1)
@@ -31,9 +31,9 @@ returns-2 c =
     let e = c .before .before .before .before in
     let s = e .before in
     let pre = s .before .before .before .before .pre in
-    rw (pair-one (pre .1 .0) (s .before .wide .ensures) (s .has-one-of .ensures) (e .if1 .left)) (c .before .before .push .ensures)
+    rw (pair-one (pre .1 .0) (s .before .wide .ensures) (s .has-one-of .ensures) (e .if1 .left)) (c .before .before .put-record .ensures)
 
 pub write-pair-spec : {M : Type 1} → statement M
 write-pair-spec =
     tie.close
-    (tie.spec wide-requires has-one-of-requires push-requires returns same-length returns-2)
+    (tie.spec wide-requires has-one-of-requires put-record-requires returns same-length returns-2)

@@ -1,36 +1,29 @@
 -- `distant_pairs::write_rest` meets its contract. The invariant of its loop: the records of the first d trial colours are written. Assumes nothing.
-use Prim.Native.Nat.{_-_, _+_, _<_}
+use Prim.Native.Nat.{_-_}
 use native.Mathlib.Omega.{arith}
 use lib.ListN.{length}
 use Rattle.lists.specs.Writes.{Turns, turns-start, turns-room, turns-turn, turns-done, wrote-length}
-use Rattle.pair_counts.specs.Records.{records}
-use Rattle.cell_groups.specs.Groups.{part}
+use Rattle.work_records.specs.Laws.{records}
+use Rattle.cells_by_key.specs.Groups.{part}
 use Rattle.cell_pairs.specs.WorkList.{distantColours}
 use Rattle.distant_pairs.specs.Distant.{distantRest}
 use Rattle.distant_pairs.proofs.write_rest.Statement.{statement}
 use Rattle.distant_pairs.proofs.write_rest.Tie as tie
 
 abbrev Inv-loop : tie.InvT-loop
-Inv-loop vertices batch tests order starts work₀ at n next₀ d₀ work next d =
-    Turns records (λ d. distantColours vertices batch tests (part order starts d)) (length starts - 1) work₀ work at next d
+Inv-loop vertices batch tests order ends work₀ at n next₀ d₀ work next d =
+    Turns records (λ d. distantColours vertices batch tests (part order ends d)) (length ends) work₀ work at next d
 
 abbrev μ-loop : tie.MeasureT-loop
-μ-loop vertices batch tests order starts work₀ at n next₀ d₀ work next d = n - d
-
-sub-n : tie.Need-sub-n Inv-loop μ-loop
-sub-n c = omega arith
+μ-loop vertices batch tests order ends work₀ at n next₀ d₀ work next d = n - d
 
 loop-holds : tie.Need-loop-holds Inv-loop μ-loop
 loop-holds c = turns-start _ _ _ _
 
--- a turn's part is one of them
-below : (c : tie.In-loop Inv-loop μ-loop) → c .before .loop .d + 1 < length (c .before .before .before .before .before .before .before .args .starts .now)
-below c = omega arith
-
 part-of-requires : tie.Need-part-of-requires Inv-loop μ-loop
 part-of-requires c κs =
     let cut = c .before .before .before .before .before .before .before .pre .1 .1 .0 in
-    let h = below c in
+    let h = c .loop-test .taken in
     (h, (cut .rise _ h, cut .within _ h))
 
 write-colours-requires : tie.Need-write-colours-requires Inv-loop μ-loop
@@ -38,8 +31,9 @@ unfolding distantRest
 write-colours-requires c κs =
     let l = c .before .before .before in
     let pre = l .before .before .before .before .before .before .pre in
-    let room = turns-room (l .loop .inv) (c .before .before .loop-test .taken) (pre .1 .1 .1 .1) in
-    rw (c .before .part-of .ensures) (pre .0, (pre .1 .0, (pre .1 .1 .0 .cells _ (below (c .before .before)), room)))
+    let h = c .before .before .loop-test .taken in
+    let room = turns-room (l .loop .inv) h (pre .1 .1 .1) in
+    rw (c .before .part-of .ensures) (pre .0, (pre .1 .0, (pre .1 .1 .0 .cells _ h, room)))
 
 add-d : tie.Need-add-d Inv-loop μ-loop
 add-d c = omega arith
@@ -65,7 +59,6 @@ write-rest-spec =
     (tie.spec
     Inv-loop
     μ-loop
-    sub-n
     loop-holds
     part-of-requires
     write-colours-requires

@@ -1,6 +1,6 @@
 -- `planning::plan` meets its contract: a refusal writes nothing; where there is none, the lists are written and the numbers handed back. Assumes nothing.
 use mathlib.Core.Path.{sym, _∙_}
-use Rattle.boundary_assemblers.specs.Accepted.{accepted}
+use Rattle.plans.specs.Accepted.{accepted}
 use Rattle.planning.specs.Plan.{plan-refused, plan-ready}
 use borrow.Author.Needs.{needs}
 use Rattle.planning.proofs.plan.Statement.{statement}

@@ -1,5 +1,5 @@
 -- `replay::play_call` meets its contract: the kind picks the call. Assumes nothing.
-use Rattle.replay.specs.Laws.{stepped-look, stepped-distant, stepped-touching}
+use Rattle.replay.specs.Laws.{stepped-look, stepped-distant, stepped-touching, stepped-entries}
 use borrow.Author.Needs.{needs}
 use Rattle.replay.proofs.play_call.Statement.{statement}
 use Rattle.replay.proofs.play_call.Tie as tie
@@ -18,7 +18,7 @@ same-length c = search needs
 
 returns : tie.Need-returns
 returns c =
-    stepped-look _ _ _ _ _ _ _ _ _ _ (c .before .before .before .before .before .if1 .taken) (c .before .before .before .before .look .ensures) (c .before .before .put-looked .ensures .0) (c .before .before .put-looked .ensures .1)
+    stepped-look _ _ _ _ _ _ _ _ _ _ _ (c .before .before .put-looked .ensures .0) (c .before .before .put-looked .ensures .1) (c .before .before .before .before .before .if1 .taken) (c .before .before .before .before .look .ensures)
 
 shared-slice-read-if2 : tie.Need-shared-slice-read-if2
 shared-slice-read-if2 c = search needs
@@ -37,8 +37,10 @@ same-length-3 c = search needs
 
 returns-2 : tie.Need-returns-2
 returns-2 c =
-    stepped-distant _ _ _ _ _ _ _ _ _ _ _ (c .before .before .before .before .before .before .before .before .before .before .if1 .left) (c .before .before .before .before .before .before .before .before .if2 .taken) (c .before .before .before .before .before .before .play-distant .ensures .0) (c .before .before .before .before .before .before .play-distant .ensures .1)
-    (c .before .before .put-added .ensures .0) (c .before .before .put-added .ensures .1)
+    stepped-distant _ _ _ _ _ _ _ _ _ _ _ (c .before .before .put-added .ensures .0) (c .before .before .put-added .ensures .1) _ (c .before .before .before .before .before .before .before .before .before .before .if1 .left) (c .before .before .before .before .before .before .before .before .if2 .taken) (c .before .before .before .before .before .before .play-distant .ensures .0) (c .before .before .before .before .before .before .play-distant .ensures .1)
+
+shared-slice-read-if3 : tie.Need-shared-slice-read-if3
+shared-slice-read-if3 c = search needs
 
 play-touching-requires : tie.Need-play-touching-requires
 play-touching-requires c κs = search needs
@@ -54,8 +56,29 @@ same-length-5 c = search needs
 
 returns-3 : tie.Need-returns-3
 returns-3 c =
-    stepped-touching _ _ _ _ _ _ _ _ _ _ _ (c .before .before .before .before .before .before .before .before .before .before .if1 .left) (c .before .before .before .before .before .before .before .before .if2 .left) (c .before .before .before .before .before .before .play-touching .ensures .0) (c .before .before .before .before .before .before .play-touching .ensures .1)
-    (c .before .before .put-added2 .ensures .0) (c .before .before .put-added2 .ensures .1)
+    stepped-touching _ _ _ _ _ _ _ _ _ _ _ (c .before .before .put-added2 .ensures .0) (c .before .before .put-added2 .ensures .1) _ (c .before .before .before .before .before .before .before .before .before .before .before .before .if1 .left) (c .before .before .before .before .before .before .before .before .before .before .if2 .left) (c .before .before .before .before .before .before .before .before .if3 .taken) (c .before .before .before .before .before .before .play-touching .ensures .0) (c .before .before .before .before .before .before .play-touching .ensures .1)
+
+play-entries-requires : tie.Need-play-entries-requires
+play-entries-requires c κs = search needs
+
+put-added-requires-3 : tie.Need-put-added-requires-3
+put-added-requires-3 c κs = search needs
+
+same-length-6 : tie.Need-same-length-6
+same-length-6 c = search needs
+
+same-length-7 : tie.Need-same-length-7
+same-length-7 c = search needs
+
+same-length-8 : tie.Need-same-length-8
+same-length-8 c = search needs
+
+same-length-9 : tie.Need-same-length-9
+same-length-9 c = search needs
+
+returns-4 : tie.Need-returns-4
+returns-4 c =
+    stepped-entries _ _ _ _ _ _ _ _ _ _ _ (c .before .before .put-added3 .ensures .0) (c .before .before .put-added3 .ensures .1) _ (c .before .before .before .before .before .before .before .before .before .before .before .before .before .before .before .before .before .before .if1 .left) (c .before .before .before .before .before .before .before .before .before .before .before .before .before .before .before .before .if2 .left) (c .before .before .before .before .before .before .before .before .before .before .before .before .before .before .if3 .left) (c .before .before .before .before .before .before .before .before .before .before .play-entries .ensures .0) (c .before .before .before .before .before .before .before .before .before .before .play-entries .ensures .1)
 
 pub play-call-spec : {M : Type 1} → statement M
 play-call-spec =
@@ -72,8 +95,16 @@ play-call-spec =
     same-length-2
     same-length-3
     returns-2
+    shared-slice-read-if3
     play-touching-requires
     put-added-requires-2
     same-length-4
     same-length-5
-    returns-3)
+    returns-3
+    play-entries-requires
+    put-added-requires-3
+    same-length-6
+    same-length-7
+    same-length-8
+    same-length-9
+    returns-4)

@@ -1,6 +1,6 @@
 -- `replay::play_distant` meets its contract: the lists in hand are those of the call (`distant-in`). Assumes nothing.
 use mathlib.Core.Path.{_∙_, ap}
-use Rattle.boundary_assemblers.specs.Runs.{addDistant, distantMatrix}
+use Rattle.runs.specs.Runs.{addDistant, distantMatrix}
 use Rattle.replay.specs.Laws.{distant-in}
 use borrow.Author.Needs.{needs}
 use Rattle.replay.proofs.play_distant.Statement.{statement}

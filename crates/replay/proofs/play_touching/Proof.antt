@@ -1,6 +1,6 @@
 -- `replay::play_touching` meets its contract: the lists in hand are those of the call (`touching-in`). Assumes nothing.
 use mathlib.Core.Path.{_∙_, ap}
-use Rattle.boundary_assemblers.specs.Runs.{addTouching, touchingMatrix}
+use Rattle.runs.specs.Runs.{addTouching, touchingMatrix}
 use Rattle.replay.specs.Laws.{touching-in}
 use borrow.Author.Needs.{needs}
 use Rattle.replay.proofs.play_touching.Statement.{statement}

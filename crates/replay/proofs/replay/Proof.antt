@@ -1,5 +1,6 @@
 -- `replay::replay` meets its contract: where planning refuses nothing is played; else what the calls leave is the machine's, by the third property. Assumes nothing.
-use mathlib.Core.Path.{sym, _∙_}
+use mathlib.Core.Path.{sym, ap, _∙_}
+use Rattle.boundary_assemblers.specs.Forms.{plannedOf}
 use Rattle.replay.specs.Laws.{count-room, finished-refused, finished-begun, finished-parts}
 use borrow.Author.Needs.{needs}
 use Rattle.replay.proofs.replay.Statement.{statement}
@@ -17,11 +18,11 @@ enum-known-planned-2 c = search needs
 call-count-requires : tie.Need-call-count-requires
 call-count-requires c κs = search needs
 
-begin-requires : tie.Need-begin-requires
-begin-requires c κs = search needs
+begin-run-requires : tie.Need-begin-run-requires
+begin-run-requires c κs = search needs
 
 play-calls-requires : tie.Need-play-calls-requires
-play-calls-requires c κs = count-room _ _ _ (c .before .before .before .before .before .before .call-count .ensures)
+play-calls-requires c κs = count-room _ _ _ (c .before .before .before .before .before .before .before .before .before .call-count .ensures)
 
 same-length : tie.Need-same-length
 same-length c = search needs
@@ -47,28 +48,28 @@ same-length-7 c = search needs
 returns : tie.Need-returns
 returns c =
     let planned = c .before .before .before .before .before .before .before .before .before .before .before .before .before .before .before .before .before .plan .ensures in
-    finished-parts (finished-refused _ _ _ _ _ _ (sym (planned .0) ∙ c .before .planned .given .1)) (planned .1)
+    finished-parts (finished-refused _ _ _ _ _ _ _ _ (sym (planned .0) ∙ ap plannedOf (c .before .planned .given .1))) (planned .1)
 
 same-length-8 : tie.Need-same-length-8
-same-length-8 c = c .before .before .before .before .before .before .before .before .before .before .before .before .before .before .before .before .before .before .before .before .before .before .before .before .before .before .before .before .before .before .plan .kept .1 .1 .1 .1 .1 .1 .1 .1 .1 .0
+same-length-8 c = c .before .before .before .before .before .before .before .before .before .before .before .before .before .before .before .before .before .before .before .before .before .before .before .before .before .before .before .before .before .before .before .before .before .before .before .before .before .before .before .plan .kept .1 .1 .1 .1 .1 .1 .1 .1 .1 .0
 
 same-length-9 : tie.Need-same-length-9
-same-length-9 c = c .before .before .before .before .before .before .before .before .before .before .before .before .before .before .before .before .before .before .before .before .before .before .before .before .before .before .before .before .before .before .plan .kept .1 .1 .1 .1 .1 .1 .1 .1 .1 .1 .0
+same-length-9 c = c .before .before .before .before .before .before .before .before .before .before .before .before .before .before .before .before .before .before .before .before .before .before .before .before .before .before .before .before .before .before .before .before .before .before .before .before .before .before .before .plan .kept .1 .1 .1 .1 .1 .1 .1 .1 .1 .1 .0
 
 same-length-10 : tie.Need-same-length-10
-same-length-10 c = c .before .before .before .before .before .before .before .before .before .before .before .before .before .before .before .before .before .before .before .before .before .before .before .before .before .before .before .before .before .before .plan .kept .1 .1 .1 .1 .1 .1 .1 .1 .1 .1 .1 .0
+same-length-10 c = c .before .before .before .before .before .before .before .before .before .before .before .before .before .before .before .before .before .before .before .before .before .before .before .before .before .before .before .before .before .before .before .before .before .before .before .before .before .before .before .plan .kept .1 .1 .1 .1 .1 .1 .1 .1 .1 .1 .1 .0
 
 same-length-11 : tie.Need-same-length-11
-same-length-11 c = c .before .before .before .before .before .before .before .before .before .before .before .before .before .before .before .before .before .before .before .before .before .before .before .before .before .before .before .before .before .before .plan .kept .1 .1 .1 .1 .1 .1 .1 .1 .1 .1 .1 .1 .0
+same-length-11 c = c .before .before .before .before .before .before .before .before .before .before .before .before .before .before .before .before .before .before .before .before .before .before .before .before .before .before .before .before .before .before .before .before .before .before .before .before .before .before .before .plan .kept .1 .1 .1 .1 .1 .1 .1 .1 .1 .1 .1 .1 .0
 
 same-length-12 : tie.Need-same-length-12
-same-length-12 c = c .before .before .before .before .before .before .before .before .before .before .before .before .before .before .before .before .before .before .before .before .before .before .before .before .before .before .before .before .before .before .plan .kept .1 .1 .1 .1 .1 .1 .1 .1 .1 .1 .1 .1 .1 .0
+same-length-12 c = c .before .before .before .before .before .before .before .before .before .before .before .before .before .before .before .before .before .before .before .before .before .before .before .before .before .before .before .before .before .before .before .before .before .before .before .before .before .before .before .plan .kept .1 .1 .1 .1 .1 .1 .1 .1 .1 .1 .1 .1 .1 .0
 
 same-length-13 : tie.Need-same-length-13
-same-length-13 c = c .before .before .before .before .before .before .before .before .before .before .before .before .before .before .before .before .before .before .before .before .before .before .before .before .before .before .before .before .before .before .plan .kept .1 .1 .1 .1 .1 .1 .1 .1 .1 .1 .1 .1 .1 .1 .0
+same-length-13 c = c .before .before .before .before .before .before .before .before .before .before .before .before .before .before .before .before .before .before .before .before .before .before .before .before .before .before .before .before .before .before .before .before .before .before .before .before .before .before .before .plan .kept .1 .1 .1 .1 .1 .1 .1 .1 .1 .1 .1 .1 .1 .1 .0
 
 same-length-14 : tie.Need-same-length-14
-same-length-14 c = c .before .before .before .before .before .before .before .before .before .before .before .before .before .before .before .before .before .before .before .before .before .before .before .before .before .before .before .before .before .before .plan .kept .1 .1 .1 .1 .1 .1 .1 .1 .1 .1 .1 .1 .1 .1 .1 .0
+same-length-14 c = c .before .before .before .before .before .before .before .before .before .before .before .before .before .before .before .before .before .before .before .before .before .before .before .before .before .before .before .before .before .before .before .before .before .before .before .before .before .before .before .plan .kept .1 .1 .1 .1 .1 .1 .1 .1 .1 .1 .1 .1 .1 .1 .1 .0
 
 same-length-15 : tie.Need-same-length-15
 same-length-15 c = search needs
@@ -76,12 +77,21 @@ same-length-15 c = search needs
 same-length-16 : tie.Need-same-length-16
 same-length-16 c = search needs
 
+same-length-17 : tie.Need-same-length-17
+same-length-17 c = search needs
+
+same-length-18 : tie.Need-same-length-18
+same-length-18 c = search needs
+
+same-length-19 : tie.Need-same-length-19
+same-length-19 c = search needs
+
 returns-2 : tie.Need-returns-2
 returns-2 c =
-    let planned = c .before .before .before .before .before .before .before .before .before .before .before .before .before .before .before .before .before .before .before .before .before .before .before .before .before .before .before .before .before .before .plan .ensures in
+    let planned = c .before .before .before .before .before .before .before .before .before .before .before .before .before .before .before .before .before .before .before .before .before .before .before .before .before .before .before .before .before .before .before .before .before .before .before .before .before .before .before .plan .ensures in
     finished-parts
-    (finished-begun _ _ _ _ _ _ _ _ _ _ _ _ _ (sym (planned .0) ∙ c .before .before .before .before .before .before .before .before .before .before .before .before .before .before .planned2 .given .1) (planned .1) (c .before .before .before .before .before .before .before .before .before .before .before .call-count .ensures) (c .before .before .before .before .before .before .before .before .before .before .begin .ensures)
-    (c .before .before .before .before .play-calls .ensures))
+    (finished-begun _ _ _ _ _ _ _ _ _ _ _ _ _ _ _ _ (sym (planned .0) ∙ ap plannedOf (c .before .before .before .before .before .before .before .before .before .before .before .before .before .before .before .before .before .before .before .before .before .before .before .planned2 .given .1)) (planned .1) (c .before .before .before .before .before .before .before .before .before .before .before .before .before .before .before .before .before .before .before .before .call-count .ensures) (c .before .before .before .before .before .before .before .before .before .before .before .before .before .before .before .before .before .before .before .begin-run .ensures)
+    (c .before .before .before .before .before .before .before .before .before .before .play-calls .ensures))
     (planned .1)
 
 pub replay-spec : {M : Type 1} → statement M
@@ -92,7 +102,7 @@ replay-spec =
     enum-known-planned
     enum-known-planned-2
     call-count-requires
-    begin-requires
+    begin-run-requires
     play-calls-requires
     same-length
     same-length-2
@@ -111,4 +121,7 @@ replay-spec =
     same-length-14
     same-length-15
     same-length-16
+    same-length-17
+    same-length-18
+    same-length-19
     returns-2)

@@ -1,6 +1,6 @@
 -- `table::table_value` meets its contract: a walk of its MIR, by hand. A `Table` is made in a local by `new` and passed on to `get`; all that the proof knows of
 -- the two is that they meet their contracts. Assumes nothing.
-use mathlib.Core.Path.{_≡_, refl, sym, _∙_}
+use mathlib.Core.Path.{_≡_, refl, _∙_}
 use Prim.Native.Nat.{ℕ, _<_, _^_}
 use mathlib.Core.List.{List, [], _∷_}
 use lib.Ieee.{Float, binary64}

@@ -28,6 +28,7 @@ refused-answer-requires c κs = search needs
 returns : tie.Need-returns
 returns c =
     let e = c .refused-answer .ensures in (
+      omega (arith, e .0),
       omega (arith, e .0, c .before .before .before .skip .ensures, c .before .before .before .before .wide .ensures),
       e .1,
       rw (e .0) (rw (c .before .before .size-refusal .ensures) at (e .2)),

@@ -1,10 +1,7 @@
 -- `worklist_io::small_text` meets its contract: the first 7 bytes stay where they are. Assumes nothing.
 use native.Mathlib.Omega.{arith}
-use mathlib.Core.Path.{refl, ap, _∙_}
-use lib.ListN.{take}
-use lib.Seq.{length-take-le, take-at}
-use Rattle.job.specs.Head.{readHead}
-use Rattle.worklist_io.specs.AnswersFacts.{printed-shown, small-answers}
+use mathlib.Core.Path.{refl}
+use Rattle.worklist_io.specs.AnswersFacts.{printed-shown, says-still, small-answers}
 use borrow.Author.Needs.{needs}
 use Rattle.worklist_io.proofs.small_text.Statement.{statement}
 use Rattle.worklist_io.proofs.small_text.Tie as tie
@@ -42,10 +39,8 @@ same-length c = search needs
 returns : tie.Need-returns
 returns c =
     let s = c .before .before .before .before .before .before .before .before .before in
-    let xs = s .args .bytes .now in
     let more = c .before .before .before .before .before .read-some in
-    let front = take-at (take 7 xs) _ 7 (length-take-le 7 xs (omega (arith, s .pre .1))) in
-    small-answers _ _ _ (ap readHead front ∙ s .pre .2) (omega arith) (omega (arith, more .ensures, c .before .before .before .before .before .before .wide .ensures)) refl (printed-shown (c .text-of .ensures))
+    small-answers _ _ _ (says-still (s .args .bytes .now) _ (omega (arith, s .pre .1)) (s .pre .2)) (omega arith) (omega (arith, more .ensures, c .before .before .before .before .before .before .wide .ensures)) (search needs) refl (printed-shown (c .text-of .ensures))
 
 pub small-text-spec : {M : Type 1} → statement M
 small-text-spec =

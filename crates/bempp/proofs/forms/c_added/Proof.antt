@@ -12,12 +12,15 @@ moved-requires c κs = search needs
 enum-known-answer-2 : tie.Need-enum-known-answer-2
 enum-known-answer-2 c = search needs
 
+moved-requires-2 : tie.Need-moved-requires-2
+moved-requires-2 c κs = search needs
+
 returns : tie.Need-returns
 returns c = rw (c .before .before .answer .given .1, c .moved .ensures)
 
 returns-2 : tie.Need-returns-2
-returns-2 c = rw (c .before .answer2 .given .1)
+returns-2 c = rw (c .before .before .answer2 .given .1, c .moved2 .ensures)
 
 pub c-added-spec : {M : Type 1} → statement M
 c-added-spec =
-    tie.close (tie.spec enum-known-answer moved-requires enum-known-answer-2 returns returns-2)
+    tie.close (tie.spec enum-known-answer moved-requires enum-known-answer-2 moved-requires-2 returns returns-2)

@@ -1,6 +1,6 @@
 -- `boundary_assemblers::PlanNumbers::begin` meets its contract. Assumes nothing.
 use mathlib.Core.Path.{refl}
-use Rattle.boundary_assemblers.specs.Runs.{begin}
+use Rattle.runs.specs.Runs.{begin}
 use Rattle.boundary_assemblers.proofs.PlanNumbers.begin.Statement.{statement}
 use Rattle.boundary_assemblers.proofs.PlanNumbers.begin.Tie as tie
 

@@ -1,6 +1,6 @@
 -- `boundary_assemblers::PlanNumbers::begin_entries` meets its contract. Assumes nothing.
 use mathlib.Core.Path.{refl}
-use Rattle.boundary_assemblers.specs.Runs.{beginEntries}
+use Rattle.runs.specs.Runs.{beginEntries}
 use Rattle.boundary_assemblers.proofs.PlanNumbers.begin_entries.Statement.{statement}
 use Rattle.boundary_assemblers.proofs.PlanNumbers.begin_entries.Tie as tie
 

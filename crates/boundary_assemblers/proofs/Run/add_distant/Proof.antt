@@ -3,9 +3,10 @@ use native.Mathlib.Omega.{arith}
 use mathlib.Core.Path.{sym, _∙_}
 use Rattle.cell_pair_assemblers.specs.Entries.{distantEntry}
 use Rattle.cell_pair_assemblers.specs.Facts.{distant-fits}
-use Rattle.boundary_assemblers.specs.Runs.{distantRefusal, addDistant, distantMatrix}
+use Rattle.runs.specs.Runs.{distantRefusal, addDistant, distantMatrix}
 use Rattle.boundary_assemblers.specs.RunFacts.{standing}
 use Rattle.boundary_assemblers.specs.AddFacts.{all-pass, add-refused, add-accepted, sum-is}
+use Rattle.boundary_assemblers.specs.Forms.{runOf}
 use borrow.Author.Needs.{needs}
 use Rattle.boundary_assemblers.proofs.Run.add_distant.Statement.{statement}
 use Rattle.boundary_assemblers.proofs.Run.add_distant.Tie as tie
@@ -31,16 +32,16 @@ dim-requires-2 c κs = search needs
 
 distant-matrix-requires : tie.Need-distant-matrix-requires
 distant-matrix-requires c κs =
-    let pass = all-pass (c .before .before .before .before .before .before .before .before .before .before .before .before .before .before .before .before .before .before .before .before .before .args .self) _ _ _ _ (sym (rw (c .before .before .before .before .before .before .before .before .matrix-right .ensures) at (c .before .before .before .before .before .before .before .distant-call-refusal .ensures)) ∙ c .before .before .before .before .before .before .if1 .left) in
-    let h = standing (c .before .before .before .before .before .before .before .before .before .before .before .before .before .before .before .before .before .before .before .before .before .args .self) _ _ (pass .state) in
+    let pass = all-pass (runOf (c .before .before .before .before .before .before .before .before .before .before .before .before .before .before .before .before .before .before .before .before .before .args .self)) _ _ _ _ (sym (rw (c .before .before .before .before .before .before .before .before .matrix-right .ensures) at (c .before .before .before .before .before .before .before .distant-call-refusal .ensures)) ∙ c .before .before .before .before .before .before .if1 .left) in
+    let h = standing (runOf (c .before .before .before .before .before .before .before .before .before .before .before .before .before .before .before .before .before .before .before .before .before .args .self)) _ _ (pass .state) in
     rw (c .dim2 .ensures, c .before .dim .ensures) (distant-fits _ _ _ _ (h .ranges .test) (h .ranges .trial) (pass .rest))
 
 add-matrix-requires : tie.Need-add-matrix-requires
-add-matrix-requires c κs = standing (c .before .before .before .before .before .before .before .before .before .before .before .before .before .before .before .before .before .before .before .before .before .before .before .args .self) _ _ (all-pass (c .before .before .before .before .before .before .before .before .before .before .before .before .before .before .before .before .before .before .before .before .before .before .before .args .self) _ _ _ _ (sym (rw (c .before .before .before .before .before .before .before .before .before .before .matrix-right .ensures) at (c .before .before .before .before .before .before .before .before .before .distant-call-refusal .ensures)) ∙ c .before .before .before .before .before .before .before .before .if1 .left) .state)
+add-matrix-requires c κs = standing (runOf (c .before .before .before .before .before .before .before .before .before .before .before .before .before .before .before .before .before .before .before .before .before .before .before .args .self)) _ _ (all-pass (runOf (c .before .before .before .before .before .before .before .before .before .before .before .before .before .before .before .before .before .before .before .before .before .before .before .args .self)) _ _ _ _ (sym (rw (c .before .before .before .before .before .before .before .before .before .before .matrix-right .ensures) at (c .before .before .before .before .before .before .before .before .before .distant-call-refusal .ensures)) ∙ c .before .before .before .before .before .before .before .before .if1 .left) .state)
 
 advanced-requires : tie.Need-advanced-requires
 advanced-requires c κs =
-    let h = standing (c .before .before .before .before .before .before .before .before .before .before .before .before .before .before .before .before .before .before .before .before .before .before .before .before .before .before .args .self) _ _ (all-pass (c .before .before .before .before .before .before .before .before .before .before .before .before .before .before .before .before .before .before .before .before .before .before .before .before .before .before .args .self) _ _ _ _ (sym (rw (c .before .before .before .before .before .before .before .before .before .before .before .before .before .matrix-right .ensures) at (c .before .before .before .before .before .before .before .before .before .before .before .before .distant-call-refusal .ensures)) ∙ c .before .before .before .before .before .before .before .before .before .before .before .if1 .left) .state) in
+    let h = standing (runOf (c .before .before .before .before .before .before .before .before .before .before .before .before .before .before .before .before .before .before .before .before .before .before .before .before .before .before .args .self)) _ _ (all-pass (runOf (c .before .before .before .before .before .before .before .before .before .before .before .before .before .before .before .before .before .before .before .before .before .before .before .before .before .before .args .self)) _ _ _ _ (sym (rw (c .before .before .before .before .before .before .before .before .before .before .before .before .before .matrix-right .ensures) at (c .before .before .before .before .before .before .before .before .before .before .before .before .distant-call-refusal .ensures)) ∙ c .before .before .before .before .before .before .before .before .before .before .before .if1 .left) .state) in
     omega (arith, h .below, h .ranges .all-pairs)
 
 same-length-2 : tie.Need-same-length-2
@@ -49,7 +50,7 @@ same-length-2 c = search needs
 returns-2 : tie.Need-returns-2
 unfolding addDistant distantMatrix distantRefusal
 returns-2 c =
-    let h = standing (c .before .before .before .before .before .before .before .before .before .before .before .before .before .before .before .before .before .before .before .before .before .before .before .before .before .before .before .args .self) _ _ (all-pass (c .before .before .before .before .before .before .before .before .before .before .before .before .before .before .before .before .before .before .before .before .before .before .before .before .before .before .before .args .self) _ _ _ _ (sym (rw (c .before .before .before .before .before .before .before .before .before .before .before .before .before .before .matrix-right .ensures) at (c .before .before .before .before .before .before .before .before .before .before .before .before .before .distant-call-refusal .ensures)) ∙ c .before .before .before .before .before .before .before .before .before .before .before .before .if1 .left) .state) in
+    let h = standing (runOf (c .before .before .before .before .before .before .before .before .before .before .before .before .before .before .before .before .before .before .before .before .before .before .before .before .before .before .before .args .self)) _ _ (all-pass (runOf (c .before .before .before .before .before .before .before .before .before .before .before .before .before .before .before .before .before .before .before .before .before .before .before .before .before .before .before .args .self)) _ _ _ _ (sym (rw (c .before .before .before .before .before .before .before .before .before .before .before .before .before .before .matrix-right .ensures) at (c .before .before .before .before .before .before .before .before .before .before .before .before .before .distant-call-refusal .ensures)) ∙ c .before .before .before .before .before .before .before .before .before .before .before .before .if1 .left) .state) in
     let local = rw (c .before .before .before .before .before .before .dim2 .ensures, c .before .before .before .before .before .before .before .dim .ensures) at (c .before .before .before .before .before .distant-matrix .ensures) in
     add-accepted _ _ _ _ _ _ (sym (rw (c .before .before .before .before .before .before .before .before .before .before .before .before .before .before .matrix-right .ensures) at (c .before .before .before .before .before .before .before .before .before .before .before .before .before .distant-call-refusal .ensures)) ∙ c .before .before .before .before .before .before .before .before .before .before .before .before .if1 .left) (c .advanced .ensures)
     (sum-is h _ (c .before .before .before .before .before .distant-matrix .result .entries) (distantEntry _ _) (local .entries) (c .before .before .before .add-matrix .ensures))

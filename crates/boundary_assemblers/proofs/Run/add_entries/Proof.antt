@@ -4,10 +4,11 @@ use mathlib.Core.Path.{sym, _∙_}
 use Rattle.lists.specs.Bool.{and-right}
 use Rattle.cell_pair_assemblers.specs.Entries.{touchingEntry}
 use Rattle.cell_pair_assemblers.specs.Facts.{touching-fits}
-use Rattle.boundary_assemblers.specs.Runs.{entriesRefusal, addEntries, entriesWritten}
+use Rattle.runs.specs.Runs.{entriesRefusal, addEntries, entriesWritten}
 use Rattle.boundary_assemblers.specs.RunFacts.{standing}
 use Rattle.boundary_assemblers.specs.AddFacts.{all-pass, add-refused, add-accepted}
 use Rattle.boundary_assemblers.specs.EntryFacts.{sized-same, values-are}
+use Rattle.boundary_assemblers.specs.Forms.{runOf}
 use borrow.Author.Needs.{needs}
 use Rattle.boundary_assemblers.proofs.Run.add_entries.Statement.{statement}
 use Rattle.boundary_assemblers.proofs.Run.add_entries.Tie as tie
@@ -30,7 +31,7 @@ same-length-3 c = search needs
 returns : tie.Need-returns
 unfolding addEntries entriesWritten entriesRefusal
 returns c =
-    add-refused _ _ _ _ _ (rw (c .before .before .entries-right .ensures) at (c .before .touching-call-refusal .ensures) ∙ sized-same (c .before .before .before .before .before .before .before .before .before .before .before .before .before .before .before .before .before .before .args .self) _ _ _ _) (c .if1 .taken)
+    add-refused _ _ _ _ _ (rw (c .before .before .entries-right .ensures) at (c .before .touching-call-refusal .ensures) ∙ sized-same (runOf (c .before .before .before .before .before .before .before .before .before .before .before .before .before .before .before .before .before .before .args .self)) _ _ _ _) (c .if1 .taken)
 
 dim-requires : tie.Need-dim-requires
 dim-requires c κs = search needs
@@ -40,19 +41,19 @@ dim-requires-2 c κs = search needs
 
 touching-matrix-requires : tie.Need-touching-matrix-requires
 touching-matrix-requires c κs =
-    let pass = all-pass (c .before .before .before .before .before .before .before .before .before .before .before .before .before .before .before .before .before .before .before .before .before .before .before .before .args .self) _ _ _ _ (sym (rw (c .before .before .before .before .before .before .before .before .entries-right .ensures) at (c .before .before .before .before .before .before .before .touching-call-refusal .ensures)) ∙ c .before .before .before .before .before .before .if1 .left) in
-    let h = standing (c .before .before .before .before .before .before .before .before .before .before .before .before .before .before .before .before .before .before .before .before .before .before .before .before .args .self) _ _ (pass .state) in
+    let pass = all-pass (runOf (c .before .before .before .before .before .before .before .before .before .before .before .before .before .before .before .before .before .before .before .before .before .before .before .before .args .self)) _ _ _ _ (sym (rw (c .before .before .before .before .before .before .before .before .entries-right .ensures) at (c .before .before .before .before .before .before .before .touching-call-refusal .ensures)) ∙ c .before .before .before .before .before .before .if1 .left) in
+    let h = standing (runOf (c .before .before .before .before .before .before .before .before .before .before .before .before .before .before .before .before .before .before .before .before .before .before .before .before .args .self)) _ _ (pass .state) in
     rw (c .dim2 .ensures, c .before .dim .ensures) (touching-fits _ _ _ _ (h .ranges .test) (h .ranges .trial) (pass .rest))
 
 write-entries-requires : tie.Need-write-entries-requires
 write-entries-requires c κs =
-    let pass = all-pass (c .before .before .before .before .before .before .before .before .before .before .before .before .before .before .before .before .before .before .before .before .before .before .before .before .before .before .before .before .args .self) _ _ _ _ (sym (rw (c .before .before .before .before .before .before .before .before .before .before .before .before .entries-right .ensures) at (c .before .before .before .before .before .before .before .before .before .before .before .touching-call-refusal .ensures)) ∙ c .before .before .before .before .before .before .before .before .before .before .if1 .left) in
-    let h = standing (c .before .before .before .before .before .before .before .before .before .before .before .before .before .before .before .before .before .before .before .before .before .before .before .before .before .before .before .before .args .self) _ _ (pass .state) in
+    let pass = all-pass (runOf (c .before .before .before .before .before .before .before .before .before .before .before .before .before .before .before .before .before .before .before .before .before .before .before .before .before .before .before .before .args .self)) _ _ _ _ (sym (rw (c .before .before .before .before .before .before .before .before .before .before .before .before .entries-right .ensures) at (c .before .before .before .before .before .before .before .before .before .before .before .touching-call-refusal .ensures)) ∙ c .before .before .before .before .before .before .before .before .before .before .if1 .left) in
+    let h = standing (runOf (c .before .before .before .before .before .before .before .before .before .before .before .before .before .before .before .before .before .before .before .before .before .before .before .before .before .before .before .before .args .self)) _ _ (pass .state) in
     (h, h .places .from (and-right _ _ (pass .right)))
 
 advanced-requires : tie.Need-advanced-requires
 advanced-requires c κs =
-    let h = standing (c .before .before .before .before .before .before .before .before .before .before .before .before .before .before .before .before .before .before .before .before .before .before .before .before .before .before .before .before .before .before .before .before .before .before .before .args .self) _ _ (all-pass (c .before .before .before .before .before .before .before .before .before .before .before .before .before .before .before .before .before .before .before .before .before .before .before .before .before .before .before .before .before .before .before .before .before .before .before .args .self) _ _ _ _ (sym (rw (c .before .before .before .before .before .before .before .before .before .before .before .before .before .before .before .before .before .before .before .entries-right .ensures) at (c .before .before .before .before .before .before .before .before .before .before .before .before .before .before .before .before .before .before .touching-call-refusal .ensures)) ∙ c .before .before .before .before .before .before .before .before .before .before .before .before .before .before .before .before .before .if1 .left) .state) in
+    let h = standing (runOf (c .before .before .before .before .before .before .before .before .before .before .before .before .before .before .before .before .before .before .before .before .before .before .before .before .before .before .before .before .before .before .before .before .before .before .before .args .self)) _ _ (all-pass (runOf (c .before .before .before .before .before .before .before .before .before .before .before .before .before .before .before .before .before .before .before .before .before .before .before .before .before .before .before .before .before .before .before .before .before .before .before .args .self)) _ _ _ _ (sym (rw (c .before .before .before .before .before .before .before .before .before .before .before .before .before .before .before .before .before .before .before .entries-right .ensures) at (c .before .before .before .before .before .before .before .before .before .before .before .before .before .before .before .before .before .before .touching-call-refusal .ensures)) ∙ c .before .before .before .before .before .before .before .before .before .before .before .before .before .before .before .before .before .if1 .left) .state) in
     omega (arith, h .below, h .ranges .all-pairs)
 
 same-length-4 : tie.Need-same-length-4
@@ -67,7 +68,7 @@ same-length-6 c = search needs
 returns-2 : tie.Need-returns-2
 unfolding addEntries entriesWritten entriesRefusal
 returns-2 c =
-    let self = c .before .before .before .before .before .before .before .before .before .before .before .before .before .before .before .before .before .before .before .before .before .before .before .before .before .before .before .before .before .before .before .before .before .before .before .before .args .self in
+    let self = runOf (c .before .before .before .before .before .before .before .before .before .before .before .before .before .before .before .before .before .before .before .before .before .before .before .before .before .before .before .before .before .before .before .before .before .before .before .before .args .self) in
     let local = rw (c .before .before .before .before .before .before .before .before .before .before .before .before .dim2 .ensures, c .before .before .before .before .before .before .before .before .before .before .before .before .before .dim .ensures) at (c .before .before .before .before .before .before .before .before .before .before .before .touching-matrix .ensures) in
     add-accepted _ _ _ _ _ _ (sym (sized-same self _ _ _ _) ∙ (sym (rw (c .before .before .before .before .before .before .before .before .before .before .before .before .before .before .before .before .before .before .before .before .entries-right .ensures) at (c .before .before .before .before .before .before .before .before .before .before .before .before .before .before .before .before .before .before .before .touching-call-refusal .ensures)) ∙ c .before .before .before .before .before .before .before .before .before .before .before .before .before .before .before .before .before .before .if1 .left)) (c .advanced .ensures)
     (c .before .before .before .before .before .before .before .write-entries .ensures ∙ values-are self _ _ (c .before .before .before .before .before .before .before .before .before .before .before .touching-matrix .result .entries) (touchingEntry _ _) (local .entries))

@@ -1,5 +1,6 @@
 -- `boundary_assemblers::Run::add_matrix` meets its contract: record p and the DOFs of its cells lie within the plan, and the matrix has room. Assumes nothing.
-use Rattle.boundary_assemblers.specs.RunFacts.{record-fits, cell-fits}
+use Rattle.boundary_assemblers.specs.RunFacts.{record-fits}
+use Rattle.runs.specs.CellDofs.{cell-fits}
 use Rattle.boundary_assemblers.specs.AddFacts.{add-fits, by-dim}
 use borrow.Author.Needs.{needs}
 use Rattle.boundary_assemblers.proofs.Run.add_matrix.Statement.{statement}

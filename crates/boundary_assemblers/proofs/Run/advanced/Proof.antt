@@ -1,6 +1,6 @@
 -- `boundary_assemblers::Run::advanced` meets its contract. Assumes nothing.
 use mathlib.Core.Path.{refl}
-use Rattle.boundary_assemblers.specs.Runs.{advance}
+use Rattle.runs.specs.Runs.{advance}
 use borrow.Author.Needs.{needs}
 use Rattle.boundary_assemblers.proofs.Run.advanced.Statement.{statement}
 use Rattle.boundary_assemblers.proofs.Run.advanced.Tie as tie

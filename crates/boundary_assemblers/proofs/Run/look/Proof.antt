@@ -1,7 +1,8 @@
 -- `boundary_assemblers::Run::look` meets its contract: a refusal is answered as such; where there is none, record p is there. Assumes nothing.
 use mathlib.Core.Path.{sym, _∙_}
-use Rattle.boundary_assemblers.specs.Runs.{lookRefusal, look}
-use Rattle.boundary_assemblers.specs.RunFacts.{standing, record-fits, look-refused}
+use Rattle.runs.specs.Runs.{lookRefusal, look}
+use Rattle.boundary_assemblers.specs.RunFacts.{standing, record-fits, reply-refused}
+use Rattle.boundary_assemblers.specs.Forms.{runOf}
 use borrow.Author.Needs.{needs}
 use Rattle.boundary_assemblers.proofs.Run.look.Statement.{statement}
 use Rattle.boundary_assemblers.proofs.Run.look.Tie as tie
@@ -11,14 +12,14 @@ state-refusal-requires c κs = search needs
 
 returns : tie.Need-returns
 unfolding look lookRefusal
-returns c = rw (← (c .before .state-refusal .ensures)) (look-refused _ _ _ (c .if1 .taken))
+returns c = reply-refused _ _ _ _ _ (c .before .state-refusal .ensures) (c .if1 .taken)
 
 wide-requires : tie.Need-wide-requires
 wide-requires c κs = search needs
 
 record-at-requires : tie.Need-record-at-requires
 record-at-requires c κs =
-    let self = c .before .before .before .before .before .before .args .self in
+    let self = runOf (c .before .before .before .before .before .before .args .self) in
     let here = standing self _ _ (sym (c .before .before .state-refusal .ensures) ∙ c .before .if1 .left) in
     rw (c .wide .ensures) (record-fits self _ (here .lengths) (here .below))
 

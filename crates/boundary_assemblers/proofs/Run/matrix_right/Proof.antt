@@ -1,5 +1,5 @@
 -- `boundary_assemblers::Run::matrix_right` meets its contract. Assumes nothing.
-use Rattle.boundary_assemblers.specs.Runs.{matrixRight}
+use Rattle.runs.specs.Runs.{matrixRight}
 use borrow.Author.Needs.{needs}
 use Rattle.boundary_assemblers.proofs.Run.matrix_right.Statement.{statement}
 use Rattle.boundary_assemblers.proofs.Run.matrix_right.Tie as tie

@@ -1,9 +1,11 @@
 -- `boundary_assemblers::Run::touching_call_refusal` meets its contract: at each return the tests that led there say what each check is. Assumes nothing.
 use mathlib.Core.Path.{sym, ap, _∙_}
 use Rattle.lists.specs.Bool.{_and_}
-use Rattle.boundary_assemblers.specs.Runs.{recordAt, isTouching}
+use Rattle.work_records.specs.Records.{recordAt}
+use Rattle.runs.specs.Runs.{isTouching}
 use Rattle.boundary_assemblers.specs.RunFacts.{standing, record-fits}
 use Rattle.boundary_assemblers.specs.AddFacts.{state-fails, other-kind, its-kind}
+use Rattle.boundary_assemblers.specs.Forms.{runOf}
 use borrow.Author.Needs.{needs}
 use Rattle.boundary_assemblers.proofs.Run.touching_call_refusal.Statement.{statement}
 use Rattle.boundary_assemblers.proofs.Run.touching_call_refusal.Tie as tie
@@ -18,7 +20,7 @@ wide-requires : tie.Need-wide-requires
 wide-requires c κs = search needs
 
 record-at-requires : tie.Need-record-at-requires
-record-at-requires c κs = let h = standing (c .before .before .before .before .before .before .before .before .before .before .before .before .args .self) _ _ (sym (c .before .before .state-refusal .ensures) ∙ c .before .if1 .left) in rw (c .wide .ensures) (record-fits _ _ (h .lengths) (h .below))
+record-at-requires c κs = let h = standing (runOf (c .before .before .before .before .before .before .before .before .before .before .before .before .args .self)) _ _ (sym (c .before .before .state-refusal .ensures) ∙ c .before .if1 .left) in rw (c .wide .ensures) (record-fits _ _ (h .lengths) (h .below))
 
 returns-2 : tie.Need-returns-2
 unfolding _and_
@@ -32,7 +34,7 @@ dim-requires-2 c κs = search needs
 
 touching-refusal-requires : tie.Need-touching-refusal-requires
 touching-refusal-requires c κs =
-    let h = standing (c .before .before .before .before .before .before .before .before .before .before .before .before .before .before .before .before .before .before .before .before .before .args .self) _ _ (sym (c .before .before .before .before .before .before .before .before .before .before .before .state-refusal .ensures) ∙ c .before .before .before .before .before .before .before .before .before .before .if1 .left) in
+    let h = standing (runOf (c .before .before .before .before .before .before .before .before .before .before .before .before .before .before .before .before .before .before .before .before .before .args .self)) _ _ (sym (c .before .before .before .before .before .before .before .before .before .before .before .state-refusal .ensures) ∙ c .before .before .before .before .before .before .before .before .before .before .if1 .left) in
     rw (c .dim2 .ensures, c .before .dim .ensures) (h .ranges .test, h .ranges .trial)
 
 returns-3 : tie.Need-returns-3

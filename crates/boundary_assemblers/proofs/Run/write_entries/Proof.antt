@@ -2,9 +2,11 @@
 use Prim.Native.Nat.{_-_}
 use native.Mathlib.Omega.{arith}
 use mathlib.Core.Path.{refl}
-use Rattle.boundary_assemblers.specs.RunFacts.{record-fits, cell-fits}
+use Rattle.boundary_assemblers.specs.RunFacts.{record-fits}
+use Rattle.runs.specs.CellDofs.{cell-fits}
 use Rattle.boundary_assemblers.specs.AddFacts.{test-long, trial-long}
 use Rattle.boundary_assemblers.specs.EntryFacts.{few, entries-fit, written-is}
+use Rattle.boundary_assemblers.specs.Forms.{runOf}
 use borrow.Author.Needs.{needs}
 use Rattle.boundary_assemblers.proofs.Run.write_entries.Statement.{statement}
 use Rattle.boundary_assemblers.proofs.Run.write_entries.Tie as tie
@@ -90,7 +92,7 @@ same-length-3 c = search needs
 returns : tie.Need-returns
 returns c =
     let s = c .before .before .before .before .before .before .before .before .before .before .before .before .before .before .before .before .before .before .before .before .before .before .before .before .before .before .before .before .before .before .before .before .before in
-    written-is (s .args .self) _ _ (s .args .local .entries)
+    written-is (runOf (s .args .self)) _ _ (s .args .local .entries)
     (rw (c .before .before .before .before .before .before .before .before .before .before .before .before .before .before .wide5 .ensures, c .before .before .before .before .before .before .before .before .before .before .before .before .before .before .before .wide4 .ensures, c .before .before .before .before .before .before .before .before .before .before .before .before .before .before .before .before .before .before .before .before .before .before .dim2 .ensures, c .before .before .before .before .before .before .before .before .before .before .before .before .before .before .before .before .before .before .before .before .before .before .before .dim .ensures) refl)
     (rw (c .before .before .before .before .before .before .before .before .before .before .before .before .before .before .before .before .before .before .before .wide2 .ensures, c .before .before .before .before .before .before .before .before .before .before .before .before .before .before .before .before .before .before .before .before .record-at .ensures, c .before .before .before .before .before .before .before .before .before .before .before .before .before .before .before .before .before .before .before .before .before .wide .ensures, c .before .before .before .before .before .before .before .before .before .before .before .before .before .before .before .before .before .before .before .before .before .before .before .dim .ensures) at (c .before .before .before .before .before .before .before .before .before .before .before .before .before .before .before .before .before .before .cell-dofs .ensures))
     (rw (c .before .before .before .before .before .before .before .before .before .before .before .before .before .before .before .before .before .wide3 .ensures, c .before .before .before .before .before .before .before .before .before .before .before .before .before .before .before .before .before .before .before .before .record-at .ensures, c .before .before .before .before .before .before .before .before .before .before .before .before .before .before .before .before .before .before .before .before .before .wide .ensures, c .before .before .before .before .before .before .before .before .before .before .before .before .before .before .before .before .before .before .before .before .before .before .dim2 .ensures) at (c .before .before .before .before .before .before .before .before .before .before .before .before .before .before .before .before .cell-dofs2 .ensures))

@@ -1,6 +1,6 @@
 -- `boundary_assemblers::calls::cell_dofs` meets its contract: the part has `dim` elements. Assumes nothing.
 use native.Mathlib.Nat.{add-sub-cancel-left}
-use Rattle.boundary_assemblers.specs.Runs.{cellDofs}
+use Rattle.runs.specs.Runs.{cellDofs}
 use borrow.Author.Needs.{needs}
 use Rattle.boundary_assemblers.proofs.calls.cell_dofs.Statement.{statement}
 use Rattle.boundary_assemblers.proofs.calls.cell_dofs.Tie as tie

@@ -1,13 +1,12 @@
 -- `cell_pair_assemblers::distant_plain::add_outer_twice_3` meets its contract: the invariant is that the columns passed are added. Assumes nothing.
-use mathlib.Core.Path.{_≡_, sym, ap, ap₂}
+use mathlib.Core.Path.{refl, _≡_, sym, ap, ap₂}
 use Prim.Native.Nat.{ℕ, _-_, _≤_}
 use native.Mathlib.Nat.{zero-add}
 use native.Mathlib.Omega.{arith}
-use lib.ListN.{length-replicate}
 use lib.Ieee.{Float}
 use Rattle.lists.specs.Maps.{mapped-at}
 use lib.Ieee as Ieee
-use Rattle.integrands.specs.Floats.{0·0, _⊕_, _⊗_}
+use Rattle.integrands.specs.Floats.{_⊕_, _⊗_}
 use Rattle.integrands.specs.ValueFacts.{factored}
 use Rattle.table.specs.Rows.{tableRow}
 use Rattle.integrands.specs.Columns.{table-reach, Added, added-none, added-turn}
@@ -24,7 +23,7 @@ abbrev μ-loop : tie.MeasureT-loop
 μ-loop entries₀ term c w v rows test-table test-points p trial-table trial-points q scaled j₀ entries j = 3 - j
 
 scaled-rows-requires : tie.Need-scaled-rows-requires Inv-loop μ-loop
-scaled-rows-requires c κs = (length-replicate {A = Float} 10 0·0, c .before .before .before .pre .1)
+scaled-rows-requires c κs = (refl, c .before .before .before .pre .1)
 
 loop-holds : tie.Need-loop-holds Inv-loop μ-loop
 loop-holds c = (search needs, added-none (c .before .before .before .before .pre .0))

@@ -17,11 +17,14 @@ wide-requires-2 c κs = search needs
 add-result : tie.Need-add-result
 add-result c = search needs
 
+add-result-2 : tie.Need-add-result-2
+add-result-2 c = search needs
+
 wide-requires-3 : tie.Need-wide-requires-3
 wide-requires-3 c κs = search needs
 
-add-result-2 : tie.Need-add-result-2
-add-result-2 c = search needs
+add-result-3 : tie.Need-add-result-3
+add-result-3 c = search needs
 
 returns-2 : tie.Need-returns-2
 returns-2 c = rw (ne-eqb _ _ (c .before .before .if1 .left), eq-eqb _ _ (c .before .if2 .taken)) (omega arith)
@@ -37,7 +40,8 @@ slot-of-spec =
     returns
     wide-requires-2
     add-result
-    wide-requires-3
     add-result-2
+    wide-requires-3
+    add-result-3
     returns-2
     returns-3)

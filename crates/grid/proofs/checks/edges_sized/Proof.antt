@@ -1,5 +1,5 @@
 -- `grid::checks::edges_sized` meets its contract: `&` of the three tests is `_and_`. Assumes nothing.
-use Rattle.lists.specs.Bool.{_and_}
+use Rattle.lists.specs.Bool.{_and_, every}
 use borrow.Author.Needs.{needs}
 use Rattle.grid.proofs.checks.edges_sized.Statement.{statement}
 use Rattle.grid.proofs.checks.edges_sized.Tie as tie
@@ -14,7 +14,7 @@ all-below-requires : tie.Need-all-below-requires
 all-below-requires c κs = search needs
 
 returns : tie.Need-returns
-unfolding _and_
+unfolding every _and_
 returns c = rw (c .all-below .ensures, c .before .is-within .ensures)
 
 pub edges-sized-spec : {M : Type 1} → statement M

@@ -1,7 +1,6 @@
 -- `job::head::size_refusal` meets its contract: each way out is the ladder of the checks, read to the one that answers. Assumes nothing.
-use mathlib.Core.Path.{sym, _∙_}
 use borrow.Author.Tests.{eq-eqb, ne-eqb, le-leb, lt-leb}
-use Rattle.lists.specs.Refusals.{refusal-none, refusal-fails, refusal-passes}
+use Rattle.lists.specs.Refusals.{answers, accepted, refused, _then_}
 use borrow.Author.Needs.{needs}
 use Rattle.job.proofs.head.size_refusal.Statement.{statement}
 use Rattle.job.proofs.head.size_refusal.Tie as tie
@@ -16,17 +15,17 @@ add-if1 : tie.Need-add-if1
 add-if1 c = search needs
 
 returns : tie.Need-returns
-returns c = sym (refusal-fails 12 _ _ (ne-eqb _ _ (rw (c .before .wide .ensures) at (c .if1 .taken))))
+returns c = answers (refused (ne-eqb _ _ (rw (c .before .wide .ensures) at (c .if1 .taken))))
 
 returns-2 : tie.Need-returns-2
 returns-2 c =
     let whole = eq-eqb _ _ (rw (c .before .before .wide .ensures) at (c .before .if1 .left)) in
-    sym (refusal-passes 12 _ _ whole ∙ refusal-fails 13 _ _ (lt-leb _ _ (c .if2 .taken)))
+    answers (whole then refused (lt-leb _ _ (c .if2 .taken)))
 
 returns-3 : tie.Need-returns-3
 returns-3 c =
     let whole = eq-eqb _ _ (rw (c .before .before .wide .ensures) at (c .before .if1 .left)) in
-    sym (refusal-passes 12 _ _ whole ∙ refusal-passes 13 _ _ (le-leb _ _ (c .if2 .left)) ∙ refusal-none)
+    answers (whole then le-leb _ _ (c .if2 .left) then accepted)
 
 pub size-refusal-spec : {M : Type 1} → statement M
 size-refusal-spec = tie.close (tie.spec wide-requires mul-if1 add-if1 returns returns-2 returns-3)

@@ -2,7 +2,7 @@
 use native.Mathlib.Omega.{arith}
 use mathlib.Core.Path.{refl}
 use Prim.Native.Nat.{min}
-use Rattle.function.specs.Elements.{dim}
+use Rattle.function.specs.Elements.{mostDim, dim}
 use Rattle.job_text.specs.PlannedFacts.{few-places}
 use borrow.Author.Needs.{needs}
 use Rattle.job_text.proofs.worklist.dof_places.Statement.{statement}
@@ -17,12 +17,12 @@ short-dim-requires c κs = search needs
 mul-result : tie.Need-mul-result
 mul-result c =
     let s = c .before .before in
-    rw (c .short-dim .ensures, c .before .wide .ensures) (omega (arith, few-places _ (min 10 (dim (s .args .element))) (s .pre) (omega arith)))
+    rw (c .short-dim .ensures, c .before .wide .ensures) (omega (arith, few-places _ (min mostDim (dim (s .args .element))) (s .pre) (omega arith)))
 
 returns : tie.Need-returns
 returns c =
     let s = c .before .before in
-    rw (c .short-dim .ensures, c .before .wide .ensures) (refl, few-places _ (min 10 (dim (s .args .element))) (s .pre) (omega arith))
+    rw (c .short-dim .ensures, c .before .wide .ensures) (refl, few-places _ (min mostDim (dim (s .args .element))) (s .pre) (omega arith))
 
 pub dof-places-spec : {M : Type 1} → statement M
 dof-places-spec = tie.close (tie.spec wide-requires short-dim-requires mul-result returns)

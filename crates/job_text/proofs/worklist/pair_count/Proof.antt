@@ -1,5 +1,5 @@
-use mathlib.Core.Path.{refl}
 -- `job_text::worklist::pair_count` meets its contract. Assumes nothing.
+use mathlib.Core.Path.{refl}
 use native.Mathlib.Omega.{arith}
 use Rattle.job_text.specs.PlannedFacts.{few-pairs}
 use borrow.Author.Needs.{needs}

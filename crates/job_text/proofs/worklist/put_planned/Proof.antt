@@ -1,6 +1,6 @@
-use Rattle.job_text.specs.PlannedFacts.{ready-lines, refused-line, room-for}
 -- `job_text::worklist::put_planned` meets its contract: where planning is ready the text is the lines of the work list that it leaves, else what it refuses.
 -- Assumes nothing.
+use Rattle.job_text.specs.PlannedFacts.{ready-lines, refused-line, room-for}
 use borrow.Author.Needs.{needs}
 use Rattle.job_text.proofs.worklist.put_planned.Statement.{statement}
 use Rattle.job_text.proofs.worklist.put_planned.Tie as tie

@@ -4,6 +4,7 @@ use native.Mathlib.Omega.{arith}
 use lib.ListN.{length}
 use Rattle.job_text.specs.TextFacts.{refused-short}
 use Rattle.job_text.specs.PlannedFacts.{refused-room}
+use Rattle.job_text.specs.PlannedText.{mostText}
 use Rattle.job_text.specs.WorklistFacts.{printed}
 use Rattle.job_text.proofs.worklist.refused_text.Statement.{statement}
 use Rattle.job_text.proofs.worklist.refused_text.Tie as tie
@@ -11,13 +12,13 @@ use Rattle.job_text.proofs.worklist.refused_text.Tie as tie
 put-refused-requires : tie.Need-put-refused-requires
 put-refused-requires c κs =
     let s = c .before in
-    let long : 49152 ≤ length (s .args .text .now) = omega arith in
+    let long : mostText ≤ length (s .args .text .now) = omega arith in
     refused-room _ (s .args .text .now) long
 
 returns : tie.Need-returns
 returns c =
     let s = c .before .before in
-    let long : 49152 ≤ length (s .args .text .now) = omega arith in
+    let long : mostText ≤ length (s .args .text .now) = omega arith in
     printed (c .put-refused .ensures) (omega (arith, refused-short (s .args .n))) long
 
 pub refused-text-spec : {M : Type 1} → statement M

@@ -2,6 +2,7 @@
 use Prim.Native.Nat.{_≤_}
 use native.Mathlib.Omega.{arith}
 use lib.ListN.{length}
+use Rattle.job_text.specs.PlannedText.{mostText}
 use Rattle.job_text.specs.WorklistFacts.{printed, worklist-short}
 use borrow.Author.Needs.{needs}
 use Rattle.job_text.proofs.worklist.worklist_text.Statement.{statement}
@@ -19,7 +20,7 @@ put-job-requires c κs = search needs
 returns : tie.Need-returns
 returns c =
     let s = c .before .before .before .before .before .before .before in
-    let long : 49152 ≤ length (s .args .text .now) = omega arith in
+    let long : mostText ≤ length (s .args .text .now) = omega arith in
     printed (c .before .before .put-job .ensures) (worklist-short (s .args .bytes .now)) long
 
 pub worklist-text-spec : {M : Type 1} → statement M

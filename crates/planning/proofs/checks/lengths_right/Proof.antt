@@ -1,7 +1,7 @@
 -- `planning::checks::lengths_right` meets its contract: the products fit. Assumes nothing.
 use native.Mathlib.Omega.{arith}
-use Rattle.lists.specs.Bool.{_and_}
-use Rattle.boundary_assemblers.specs.Planning.{lengthsRight}
+use Rattle.lists.specs.Bool.{_and_, every}
+use Rattle.plans.specs.Planning.{lengthsRight}
 use Rattle.planning.specs.Facts.{products}
 use borrow.Author.Needs.{needs}
 use Rattle.planning.proofs.checks.lengths_right.Statement.{statement}
@@ -35,7 +35,7 @@ mul-result-3 : tie.Need-mul-result-3
 mul-result-3 c = let start = c .before .before .before .before .before .before .before .before .before .before in rw (c .before .before .wide .ensures) (omega (arith, products _ _ _ (start .pre .0) (start .pre .1) (start .pre .2)))
 
 returns : tie.Need-returns
-unfolding lengthsRight _and_
+unfolding lengthsRight every _and_
 returns c = simp (c .dim2 .ensures, c .before .dim .ensures, c .before .before .wide .ensures)
 
 pub lengths-right-spec : {M : Type 1} → statement M

@@ -1,0 +1,46 @@
+-- What the program's structs and enums stand for: for each case of an enum the paper's answer, and the run that is handed back. Assumes nothing.
+use Rattle.plans.specs.Planning as Plans
+use Rattle.plans.specs.Planning.{ready, refused}
+use Rattle.runs.specs.Runs as Runs
+use Rattle.runs.specs.Runs.{Reply, found, accepted}
+use Rattle.boundary_assemblers.specs.declared.PlanNumbers.{PlanNumbers}
+use Rattle.boundary_assemblers.specs.declared.Planned.{Planned}
+use Rattle.boundary_assemblers.specs.declared.Planned.the-variants.{Ready, Refused as PlanRefused}
+use Rattle.boundary_assemblers.specs.declared.Run.{Run}
+use Rattle.boundary_assemblers.specs.declared.Looked.{Looked}
+use Rattle.boundary_assemblers.specs.declared.Looked.the-variants.{Found, Refused as LookRefused}
+use Rattle.boundary_assemblers.specs.declared.Added.{Added}
+use Rattle.boundary_assemblers.specs.declared.Added.the-variants.{Accepted, Refused as AddRefused}
+
+abbrev pub numbersOf : PlanNumbers → Plans.PlanNumbers
+numbersOf n =
+    record {
+      cells = n .cells;
+      vertices = n .vertices;
+      edges = n .edges;
+      touching = n .touching;
+      distant = n .distant;
+      rows = n .rows;
+      columns = n .columns;
+      test = n .test;
+      trial = n .trial;
+      integrand = n .integrand;
+    }
+
+-- what planning answers
+abbrev pub plannedOf : Planned → Plans.Planned
+plannedOf (Ready n) = ready (numbersOf n)
+plannedOf (PlanRefused v) = refused v
+
+abbrev pub runOf : Run → Runs.Run
+runOf r = record { numbers = numbersOf (r .numbers); entries = r .entries; position = r .position }
+
+-- what look hands back
+abbrev pub lookedOf : Looked → Reply
+lookedOf (Found r e) = record { run = runOf r; answer = found e }
+lookedOf (LookRefused r n) = record { run = runOf r; answer = Runs.refused n }
+
+-- what an add or the entries call hands back
+abbrev pub addedOf : Added → Reply
+addedOf (Accepted r) = record { run = runOf r; answer = accepted }
+addedOf (AddRefused r n) = record { run = runOf r; answer = Runs.refused n }

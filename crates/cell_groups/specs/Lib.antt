@@ -1,2 +1,0 @@
--- Cells laid out group by group (`Groups`).
-pub mod Groups

@@ -1,0 +1,96 @@
+-- M6 to M8 of the paper, as planning answers them. Assumes nothing.
+use Prim.Native.Nat.{ℕ, _+_}
+use mathlib.Core.List.{[], _∷_}
+use mathlib.Core.Path.{refl}
+use Rattle.lists.specs.Examples.{Example, example, Holds}
+use Rattle.grid.specs.Mesh.{Mesh}
+use Rattle.grid.specs.Examples.{M, M7-turned, M7-twice, M8-large}
+use Rattle.function.specs.Examples.{element}
+use Rattle.integrands.specs.declared.Term.the-variants.{Bare}
+use Rattle.integrands.specs.Examples.{opened-integrands}
+use Rattle.cell_pairs.specs.Examples.{opened-cell-pairs}
+use Rattle.plans.specs.Planning.{Planning, listsFor, batchRight, lengthsRight, planRefusal, planNumbers, plan, plannedNumber, writtenLists, planLists}
+
+-- opens the definitions of this crate and of those below it
+unfoldable pub opened-plans : Unit {0}
+unfolding opened-cell-pairs opened-integrands batchRight lengthsRight planRefusal planNumbers plan writtenLists planLists
+opened-plans = tt
+
+-- planned with one bare term of kind 0, both elements a = 1
+abbrev pub vertexDofs : Mesh → ℕ → Planning
+vertexDofs m B =
+    record { mesh = m; test = element 1 0 0; trial = element 1 0 0; batch = B; integrand = record { terms = 1; first = Bare 0; second = Bare 0 } }
+
+-- the paper's number of what planning answers
+abbrev number : Planning → ℕ
+number x = plannedNumber (plan x (listsFor x))
+
+-- M is accepted
+abbrev pub M-planned : Example
+M-planned = example (number (vertexDofs M 2)) 0
+
+pub M-planned-holds : Holds M-planned
+unfolding opened-plans
+M-planned-holds = refl
+
+-- M6: N = 4, S = 5, 4 + 5 = 9, of what planning hands back
+abbrev pub M6-distant : Example
+M6-distant = example (planNumbers (vertexDofs M 2) .distant) 4
+
+pub M6-distant-holds : Holds M6-distant
+unfolding opened-plans
+M6-distant-holds = refl
+
+abbrev pub M6-touching : Example
+M6-touching = example (planNumbers (vertexDofs M 2) .touching) 5
+
+pub M6-touching-holds : Holds M6-touching
+unfolding opened-plans
+M6-touching-holds = refl
+
+abbrev pub M6-sum : Example
+M6-sum = example (planNumbers (vertexDofs M 2) .distant + planNumbers (vertexDofs M 2) .touching) 9
+
+pub M6-sum-holds : Holds M6-sum
+unfolding opened-plans
+M6-sum-holds = refl
+
+-- Beside the paper's: rows are the test element's DOFs, columns the trial element's. M has 7 vertices and 3 cells
+abbrev pub M-sizes : Example
+M-sizes =
+    let x : Planning = record { mesh = M; test = element 1 0 0; trial = element 0 0 1; batch = 1; integrand = vertexDofs M 1 .integrand } in
+    example (planNumbers x .rows ∷ planNumbers x .columns ∷ []) (7 ∷ 3 ∷ [])
+
+pub M-sizes-holds : Holds M-sizes
+unfolding opened-plans
+M-sizes-holds = refl
+
+-- M7: cells (0,1,2), (1,2,0): 7. Cells (0,1,2) twice are accepted
+abbrev pub M7-refused : Example
+M7-refused = example (number (vertexDofs M7-turned 1)) 7
+
+pub M7-refused-holds : Holds M7-refused
+unfolding opened-plans
+M7-refused-holds = refl
+
+abbrev pub M7-planned : Example
+M7-planned = example (number (vertexDofs M7-twice 1)) 0
+
+pub M7-planned-holds : Holds M7-planned
+unfolding opened-plans
+M7-planned-holds = refl
+
+-- M8: M planned with batch 0: 5. C = 2,049: 1
+abbrev pub M8-batch : Example
+M8-batch = example (number (vertexDofs M 0)) 5
+
+pub M8-batch-holds : Holds M8-batch
+unfolding opened-plans
+M8-batch-holds = refl
+
+abbrev pub M8-cells : Example
+M8-cells = example (number (vertexDofs M8-large 1)) 1
+
+pub M8-cells-holds : Holds M8-cells
+unfolding opened-plans
+M8-cells-holds = refl

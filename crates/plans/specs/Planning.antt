@@ -1,0 +1,187 @@
+-- Planning: checks 1 to 8 in this order, what it answers, and what it leaves in the lists that it is lent. Assumes nothing.
+use Prim.Native.Nat.{ℕ, zero, suc, _*_}
+use mathlib.Core.Bool.{Bool}
+use mathlib.Core.List.{List, [], _∷_, _++_}
+use lib.ListN.{length, drop, replicate}
+use lib.Dec.{eqb}
+use Rattle.lists.specs.Bool.{every}
+use Rattle.lists.specs.Refusals.{Check, check, refusal}
+use Rattle.grid.specs.Mesh.{Mesh, within, meshChecks}
+use Rattle.function.specs.declared.Element.{Element}
+use Rattle.function.specs.Elements.{dim, dimsRight}
+use Rattle.function.specs.Numbering.{Space, dofList, dofCount, ownerList}
+use Rattle.function.specs.Colours.{colourList}
+use Rattle.integrands.specs.declared.Integrand.{Integrand}
+use Rattle.integrands.specs.Terms.{integrandRight}
+use Rattle.work_records.specs.declared.WorkRecord.{WorkRecord}
+use Rattle.work_records.specs.Records.{width, flat}
+use Rattle.cell_pairs.specs.Patterns.{patternsRight}
+use Rattle.cell_pairs.specs.WorkList.{workList, sharingPairs, distantPairs}
+
+-- What planning is given
+pub record Planning : Type 0 where
+  pub mesh : Mesh
+  pub test : Element
+  pub trial : Element
+  pub batch : ℕ
+  pub integrand : Integrand
+
+-- The lists that it is lent to write: each element has its own DOF, colour and owner list
+pub record Lists : Type 0 where
+  pub testDofs : List ℕ
+  pub trialDofs : List ℕ
+  pub testColours : List ℕ
+  pub trialColours : List ℕ
+  pub testOwners : List ℕ
+  pub trialOwners : List ℕ
+  pub work : List ℕ
+
+-- The numbers that it hands back: S, N, the DOF counts (rows for test, columns for trial), sizes, elements and integrand
+pub record PlanNumbers : Type 0 where
+  pub cells : ℕ
+  pub vertices : ℕ
+  pub edges : ℕ
+  pub touching : ℕ
+  pub distant : ℕ
+  pub rows : ℕ
+  pub columns : ℕ
+  pub test : Element
+  pub trial : Element
+  pub integrand : Integrand
+
+-- What planning answers: its numbers, or a refusal's number
+pub data Planned : Type 0 where
+  ready : PlanNumbers → Planned
+  refused : ℕ → Planned
+
+-- from the arguments of a call
+abbrev pub meshOf : ℕ → ℕ → ℕ → List ℕ → List ℕ → Mesh
+meshOf C V' E cellVertices cellEdges = record { cells = C; vertices = V'; edges = E; cellVertices = cellVertices; cellEdges = cellEdges }
+
+abbrev pub planningOf : Mesh → Element → Element → ℕ → Integrand → Planning
+planningOf m test trial B f = record { mesh = m; test = test; trial = trial; batch = B; integrand = f }
+
+abbrev pub listsOf : List ℕ → List ℕ → List ℕ → List ℕ → List ℕ → List ℕ → List ℕ → Lists
+listsOf testDofs trialDofs testColours trialColours testOwners trialOwners work =
+    record {
+      testDofs = testDofs;
+      trialDofs = trialDofs;
+      testColours = testColours;
+      trialColours = trialColours;
+      testOwners = testOwners;
+      trialOwners = trialOwners;
+      work = work;
+    }
+
+-- lists of the right lengths
+abbrev pub listsFor : Planning → Lists
+listsFor x =
+    let C = x .mesh .cells in
+    listsOf (replicate (C * dim (x .test)) 0) (replicate (C * dim (x .trial)) 0) (replicate C 0) (replicate C 0) (replicate (3 * (C * dim (x .test))) 0)
+    (replicate (3 * (C * dim (x .trial))) 0)
+    (replicate (width * (C * C)) 0)
+
+-- an element on the mesh
+abbrev pub spaceOn : Mesh → Element → Space
+spaceOn m e = record { cellVertices = m .cellVertices; cellEdges = m .cellEdges; element = e }
+
+abbrev pub testSpace : Planning → Space
+testSpace x = spaceOn (x .mesh) (x .test)
+
+abbrev pub trialSpace : Planning → Space
+trialSpace x = spaceOn (x .mesh) (x .trial)
+
+-- ---- the checks
+
+-- 5: batch is from 1 to 65,535
+abbrev pub mostBatch : ℕ
+mostBatch = 65535
+
+unfoldable pub batchRight : ℕ → Bool
+batchRight B = within 1 mostBatch B
+
+-- 8: DOF lists are C·dim long, colours C, owner lists 3·C·dim, the work list 3·C·C
+unfoldable pub lengthsRight : ℕ → Element → Element → Lists → Bool
+lengthsRight C test trial l =
+    every (eqb (length (l .testDofs)) (C * dim test)
+    ∷ eqb (length (l .trialDofs)) (C * dim trial)
+    ∷ eqb (length (l .testColours)) C
+    ∷ eqb (length (l .trialColours)) C
+    ∷ eqb (length (l .testOwners)) (3 * (C * dim test))
+    ∷ eqb (length (l .trialOwners)) (3 * (C * dim trial))
+    ∷ eqb (length (l .work)) (width * (C * C))
+    ∷ [])
+
+-- planning checks 1 to 8 in this order
+abbrev pub planChecks : Planning → Lists → List Check
+planChecks x l =
+    meshChecks (x .mesh)
+    ++ check 4 (dimsRight (x .test) (x .trial))
+    ∷ check 5 (batchRight (x .batch))
+    ∷ check 6 (integrandRight (x .integrand))
+    ∷ check 7 (patternsRight (x .mesh .cells) (x .mesh .cellVertices))
+    ∷ check 8 (lengthsRight (x .mesh .cells) (x .test) (x .trial) l)
+    ∷ []
+
+-- the first that turns the call down, or 0
+unfoldable pub planRefusal : Planning → Lists → ℕ
+planRefusal x l = refusal (planChecks x l)
+
+-- ---- what is handed back
+
+-- the records of the work list
+abbrev pub workRecords : Planning → List WorkRecord
+workRecords x = workList (x .mesh) (x .batch) (colourList (testSpace x) (x .mesh .cells)) (colourList (trialSpace x) (x .mesh .cells))
+
+unfoldable pub planNumbers : Planning → PlanNumbers
+planNumbers x =
+    record {
+      cells = x .mesh .cells;
+      vertices = x .mesh .vertices;
+      edges = x .mesh .edges;
+      touching = sharingPairs (x .mesh);
+      distant = distantPairs (x .mesh);
+      rows = dofCount (testSpace x) (x .mesh .cells);
+      columns = dofCount (trialSpace x) (x .mesh .cells);
+      test = x .test;
+      trial = x .trial;
+      integrand = x .integrand;
+    }
+
+-- 0 is no refusal
+abbrev pub planAnswer : ℕ → PlanNumbers → Planned
+planAnswer zero p = ready p
+planAnswer (suc n) p = refused (suc n)
+
+unfoldable pub plan : Planning → Lists → Planned
+plan x l = planAnswer (planRefusal x l) (planNumbers x)
+
+-- the paper's number of an answer: 0 where nothing is turned down
+abbrev pub plannedNumber : Planned → ℕ
+plannedNumber (ready p) = 0
+plannedNumber (refused n) = n
+
+-- ---- what is written
+
+-- what a list holds after a call with that refusal: a refusal writes nothing
+abbrev pub unlessRefused : {A : Type 0} → ℕ → A → A → A
+unlessRefused zero new old = new
+unlessRefused (suc n) new old = old
+
+-- the tail of an owner list past the last record stays
+unfoldable pub writtenLists : Planning → Lists → Lists
+writtenLists x l =
+    let C = x .mesh .cells in
+    record {
+      testDofs = dofList (testSpace x) C;
+      trialDofs = dofList (trialSpace x) C;
+      testColours = colourList (testSpace x) C;
+      trialColours = colourList (trialSpace x) C;
+      testOwners = ownerList (testSpace x) C ++ drop (3 * dofCount (testSpace x) C) (l .testOwners);
+      trialOwners = ownerList (trialSpace x) C ++ drop (3 * dofCount (trialSpace x) C) (l .trialOwners);
+      work = flat (workRecords x);
+    }
+
+-- the lists after the call
+unfoldable pub planLists : Planning → Lists → Lists
+planLists x l = unlessRefused (planRefusal x l) (writtenLists x l) l

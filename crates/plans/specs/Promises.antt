@@ -1,0 +1,145 @@
+-- What is promised of every planning that is accepted, said of what it answers (`plan x l`) and of what stands in the lent lists afterwards (`planLists x l`).
+-- Assumes nothing.
+use Prim.Native.Nat.{ℕ, zero, suc, _+_, _*_, _≤_, _<_}
+use native.Mathlib.Omega.{arith}
+use mathlib.Core.Path.{_≡_, refl, ap, _∙_}
+use mathlib.Core.Bool.{true}
+use mathlib.Core.List.{List, [], _∷_, _++_}
+use lib.ListN.{length, getD, drop, List·getD-append}
+use lib.Seq.{drop-at}
+use Rattle.lists.specs.Total.{count}
+use Rattle.grid.specs.Facts.{vertices-differ, edges-differ}
+use Rattle.function.specs.declared.Element.{Element}
+use Rattle.function.specs.Elements.{dim}
+use Rattle.function.specs.Numbering.{Space, dimensionOf, entityOf, dofsOn, dofsBefore, sameEntity, dofList, dofCount, ownerList}
+use Rattle.function.specs.NumberingPromises.{dof-list-length, dof-below, dof-count-le, number-written, cell-numbers-differ, shared-numbers, number-below, owner-names, owner-list-length}
+use Rattle.function.specs.Colours.{sharing, colourList}
+use Rattle.function.specs.ColoursPromises.{colours-long, sharing-differ}
+use Rattle.work_records.specs.Records.{rec, width, flat, recordsOf}
+use Rattle.work_records.specs.Laws.{length-flat, records-flat}
+use Rattle.cell_pairs.specs.WorkList.{sharingPairs, distantPairs}
+use Rattle.pair_counts.specs.WorkRecords.{ofPair, Distant, Touching}
+use Rattle.pair_counts.specs.Counting.{once, split, length-work, record-distant, record-touching}
+use Rattle.grid.specs.Mesh.{Mesh}
+use Rattle.plans.specs.Planning.{Planning, Lists, PlanNumbers, ready, refused, planRefusal, planAnswer, unlessRefused, spaceOn, testSpace, trialSpace, workRecords, planNumbers, plan, planLists, writtenLists}
+use Rattle.plans.specs.Accepted.{Accepted, accepted, counted, mesh-fine, ready-is}
+
+-- ---- the work list, of which the first N records are distant
+
+pub record Listed (m : Mesh) (N : ℕ) (work : List ℕ) : Type 0 where
+  -- it is 3·C·C numbers long, C·C records
+  pub long : length work ≡ width * (m .cells * m .cells)
+  pub records-long : length (recordsOf work) ≡ m .cells * m .cells
+  -- each ordered pair of cells stands in it exactly once
+  pub each-once : (i j : ℕ) → i < m .cells → j < m .cells → count (ofPair i j) (recordsOf work) ≡ 1
+  -- and nothing else: the first N records are of two cells of the mesh that share no vertex, with the pattern 255
+  pub distant : (k : ℕ) → k < N → Distant m (getD (recordsOf work) k (rec 0 0 0))
+  -- the others of two cells of the mesh that share one, with their own pattern, 0 to 27
+  pub touching : (k : ℕ) → N ≤ k → k < m .cells * m .cells → Touching m (getD (recordsOf work) k (rec 0 0 0))
+
+-- ---- DOFs, colours and owners of an element on C cells. Place p of cell i, 0 to 2 its vertices, 3 to 5 its edges, 6 its interior, is visit 7i + p
+
+pub record Spaced (s : Space) (C count : ℕ) (dofs colours owners before : List ℕ) : Type 0 where
+  pub dofs-long : length dofs ≡ C * dim (s .element)
+  -- every DOF number is below the count, which is at most C·dim, and each number below it is used
+  pub dofs-below : (k : ℕ) → k < C * dim (s .element) → getD dofs k 0 < count
+  pub dofs-few : count ≤ C * dim (s .element)
+  pub dofs-used : (n : ℕ) → n < count → (k : ℕ) × (k < C * dim (s .element)) × (getD dofs k 0 ≡ n)
+  -- no DOF number stands twice in one cell
+  pub dofs-differ : (i a b : ℕ) → i < C → a < dim (s .element) → b < dim (s .element)
+      → getD dofs (dim (s .element) * i + a) 0 ≡ getD dofs (dim (s .element) * i + b) 0 → a ≡ b
+  -- cells that share an entity share its DOFs
+  pub dofs-shared : (i p j r q : ℕ) → i < C → p < 7 → j < C → r < 7 → sameEntity s (7 * i + p) (7 * j + r) ≡ true → q < dofsOn s (7 * i + p)
+      → getD dofs (dim (s .element) * i + dofsBefore (s .element) p + q) 0 ≡ getD dofs (dim (s .element) * j + dofsBefore (s .element) r + q) 0
+  -- the owner record of a DOF names dimension, entity and place on it
+  pub owners-named : (i p q d : ℕ) → i < C → p < 7 → q < dofsOn s (7 * i + p) → d < 3
+      → getD owners (3 * getD dofs (dim (s .element) * i + dofsBefore (s .element) p + q) 0 + d) 0
+      ≡ getD (dimensionOf (7 * i + p) ∷ entityOf s (7 * i + p) ∷ q ∷ []) d 0
+  -- the tail past the last record stays
+  pub owners-tail : drop (3 * count) owners ≡ drop (3 * count) before
+  -- one colour a cell, and two cells that share an entity of the colouring dimension have different ones
+  pub colours-long : length colours ≡ C
+  pub colours-differ : (i j : ℕ) → i < C → j < C → (i ≡ j → ⊥) → sharing s i j ≡ true → getD colours i 0 ≡ getD colours j 0 → ⊥
+
+-- ---- all of it
+
+pub record Promised (x : Planning) (l : Lists) (n : PlanNumbers) : Type 0 where
+  -- S counts the ordered pairs of cells that share a vertex, N those that share none, and S + N = C·C
+  pub touching : n .touching ≡ sharingPairs (x .mesh)
+  pub distant : n .distant ≡ distantPairs (x .mesh)
+  pub all-pairs : n .touching + n .distant ≡ x .mesh .cells * x .mesh .cells
+  pub work : Listed (x .mesh) (n .distant) (planLists x l .work)
+  pub test : Spaced (testSpace x) (x .mesh .cells) (n .rows) (planLists x l .testDofs) (planLists x l .testColours) (planLists x l .testOwners) (l .testOwners)
+  pub trial : Spaced (trialSpace x) (x .mesh .cells) (n .columns) (planLists x l .trialDofs) (planLists x l .trialColours) (planLists x l .trialOwners) (l .trialOwners)
+
+-- ---- proofs
+
+module _ {x : Planning} {l : Lists} (ok : Accepted x l) where
+  abbrev C : ℕ
+  C = x .mesh .cells
+
+  listed : Listed (x .mesh) (distantPairs (x .mesh)) (flat (workRecords x))
+  listed =
+      let h = counted ok in
+      let long = length-work (x .mesh) (x .batch) _ _ h in
+      record {
+        long = length-flat (workRecords x) ∙ ap (λ (n : ℕ). width * n) long;
+        records-long = ap length (records-flat (workRecords x)) ∙ long;
+        each-once = λ i j hi hj. ap (count (ofPair i j)) (records-flat (workRecords x)) ∙ once (x .mesh) (x .batch) _ _ h i j hi hj;
+        distant = λ k b. rw (records-flat (workRecords x)) (record-distant (x .mesh) (x .batch) _ _ h k b);
+        touching = λ k a b. rw (records-flat (workRecords x)) (record-touching (x .mesh) (x .batch) _ _ h k a b);
+      }
+
+  spaced : (e : Element) (before : List ℕ)
+      → (let s = spaceOn (x .mesh) e in Spaced s C (dofCount s C) (dofList s C) (colourList s C) (ownerList s C ++ drop (3 * dofCount s C) before) before)
+  spaced e before =
+      let m = mesh-fine ok in
+      let s : Space = spaceOn (x .mesh) e in
+      record {
+        dofs-long = dof-list-length s C;
+        dofs-below = dof-below s C;
+        dofs-few = dof-count-le s C;
+        dofs-used = number-written s C;
+        dofs-differ = λ i a b hi ha hb.
+            cell-numbers-differ s i
+            (λ p q hp hq n z. n (vertices-differ (x .mesh .cellVertices) i (m .apart i hi) p q hp hq z))
+            (λ p q hp hq n z. n (edges-differ (x .mesh) m i hi p q hp hq z))
+            C a b hi ha hb;
+        dofs-shared = λ i p j r q hi hp hj hr same hq. shared-numbers s C i p q hi hp hq j r hj hr same;
+        owners-named = λ i p q d hi hp hq hd.
+            let k : ℕ = dim e * i + dofsBefore e p + q in
+            List·getD-append (ownerList s C) (drop (3 * dofCount s C) before) 0 (3 * getD (dofList s C) k 0 + d) (owner-inside s i p q d hi hp hq hd)
+            ∙ owner-names s C i p q hi hp hq d hd;
+        owners-tail = drop-at (ownerList s C) (drop (3 * dofCount s C) before) (3 * dofCount s C) (owner-list-length s C);
+        colours-long = colours-long s C;
+        colours-differ = sharing-differ s C;
+      }
+    where
+      owner-inside : (s : Space) (i p q d : ℕ) → i < C → p < 7 → q < dofsOn s (7 * i + p) → d < 3
+          → 3 * getD (dofList s C) (dim (s .element) * i + dofsBefore (s .element) p + q) 0 + d < length (ownerList s C)
+      owner-inside s i p q d hi hp hq hd = omega (arith, owner-list-length s C, number-below s C i p q hi hp hq)
+
+-- so it is wherever planning answers with numbers
+pub promised : (x : Planning) (l : Lists) (n : PlanNumbers) → plan x l ≡ ready n → Promised x l n
+unfolding planLists writtenLists planNumbers
+promised x l n e =
+    let r = ready-is e in
+    let ok : Accepted x l = accepted x l (r .none) in
+    rw (r .numbers)
+    (record {
+      touching = refl;
+      distant = refl;
+      all-pairs = split (x .mesh);
+      work = rw (r .none) (listed ok);
+      test = rw (r .none) (spaced ok (x .test) (l .testOwners));
+      trial = rw (r .none) (spaced ok (x .trial) (l .trialOwners));
+    })
+
+-- a refused planning changes nothing
+pub refused-keeps : (x : Planning) (l : Lists) (n : ℕ) → plan x l ≡ refused n → planLists x l ≡ l
+unfolding plan planLists
+refused-keeps x l n e = go (planRefusal x l) e
+  where
+    go : (v : ℕ) → planAnswer v (planNumbers x) ≡ refused n → unlessRefused v (writtenLists x l) l ≡ l
+    go zero e = absurd (let z : _≡_ {A = ℕ} 0 1 = cc in omega arith)
+    go (suc v) e = refl

@@ -1,0 +1,68 @@
+-- `replay_runs::read_calls` is safe and ends. Assumes nothing.
+use Prim.Native.Nat.{_≤_, _-_}
+use mathlib.Core.Path.{_≡_}
+use lib.ListN.{length}
+use borrow.Author.Needs.{needs}
+use Rattle.replay_runs.proofs.read_calls.Statement.{statement}
+use Rattle.replay_runs.proofs.read_calls.Tie as tie
+
+abbrev Inv-loop : tie.InvT-loop
+Inv-loop fd calls₀ n numbers i₀ i-end calls i = (i ≤ i-end) × (length calls ≡ i-end) × (length calls ≡ length calls₀)
+
+abbrev μ-loop : tie.MeasureT-loop
+μ-loop fd calls₀ n numbers i₀ i-end calls i = i-end - i
+
+slice-aggregate-read-front : tie.Need-slice-aggregate-read-front Inv-loop μ-loop
+slice-aggregate-read-front c = search needs
+
+read-front-requires : tie.Need-read-front-requires Inv-loop μ-loop
+read-front-requires c κs = search needs
+
+loop-holds : tie.Need-loop-holds Inv-loop μ-loop
+loop-holds c = search needs
+
+slice-aggregate-number-at : tie.Need-slice-aggregate-number-at Inv-loop μ-loop
+slice-aggregate-number-at c = search needs
+
+number-at-requires : tie.Need-number-at-requires Inv-loop μ-loop
+number-at-requires c κs = search needs
+
+mul-calls : tie.Need-mul-calls Inv-loop μ-loop
+mul-calls c = search needs
+
+slice-write-calls : tie.Need-slice-write-calls Inv-loop μ-loop
+slice-write-calls c = search needs
+
+add-i : tie.Need-add-i Inv-loop μ-loop
+add-i c = search needs
+
+loop-less : tie.Need-loop-less Inv-loop μ-loop
+loop-less c = search needs
+
+loop-again : tie.Need-loop-again Inv-loop μ-loop
+loop-again c = search needs
+
+same-length : tie.Need-same-length Inv-loop μ-loop
+same-length c = search needs
+
+returns : tie.Need-returns Inv-loop μ-loop
+returns c = search needs
+
+pub read-calls-spec : {M : Type 1} → statement M
+read-calls-spec =
+    tie.close
+    (tie.spec
+    Inv-loop
+    μ-loop
+    slice-aggregate-read-front
+    read-front-requires
+    loop-holds
+    slice-aggregate-number-at
+    number-at-requires
+    mul-calls
+    slice-write-calls
+    add-i
+    loop-less
+    loop-again
+    same-length
+    returns)

@@ -1,0 +1,737 @@
+// Records the lists of calls that the program replay_runs plays, each with what it must answer and leave. Written from the paper alone: it plans a mesh, plays
+// the calls by the checks in their order, and sums one local entry at a time, with one rounding per operation. Compile without contraction of products and
+// sums, and run, in the top folder:
+//
+//     cc -std=c11 -O1 -ffp-contract=off -o record_calls tools/record_calls.c -lm
+//     ./record_calls dense > crates/replay_runs/data/dense
+//     ./record_calls entries > crates/replay_runs/data/entries
+//
+// `dense`: dense runs with looks and both adds. `entries`: entries runs, and dense runs that are asked an entries call. Both draw from a generator of their own
+// with a fixed seed, so each run writes the same bytes. What occurs goes to standard error.
+//
+// A file is words of 16 hexadecimal digits, a blank or a line end after each: a line with the number of cases, then a line a case.
+//     word 0      C, V, E and batch, four digits each
+//     word 1      digits: test a, b, c; trial a, b, c; number of terms; form (0 bare, 1 with a factor) and kind of the first term, the same of the second;
+//                 0 for a dense run or 1 for an entries run; planning's refusal; three zeros
+//     words 2, 3  the factors of the two terms (0 for a bare one)
+//     sixteen numbers, four in a word: lengths of cell vertices (and of cell edges), test DOFs, trial DOFs, colours (each), test owners, trial owners, work list,
+//                 calls, pool, matrix, entry lists (each), answers; the position after the last call; three zeros
+//     then        cell vertices, cell edges and calls, as numbers; pool and matrix, as floats;
+//                 and after the calls answers, as numbers; matrix, as floats; entry rows and columns, as numbers; entry values, as floats
+// Numbers of a list stand four in a word, and the last word of a list is filled up with zeros. A float is written by its bits, and each NaN as 7ff8000000000000.
+//
+// A call is eleven numbers: kind (0 look, 1 distant, 2 touching, 3 entries), two point counts (of kinds 2 and 3 the first alone is read), and eight places that
+// part the pool into seven lists (kinds 2 and 3 have six); a list whose places are not there is empty. Lists: weights (distant: of the test points, then of the
+// trial points), test table, trial table, kernel, test geometry, trial geometry. An answer is four numbers: 0 and the record; 1 0 0 0; or 2, the refusal, 0 0.
+// Before the calls each number of the answers and of the entry rows and columns is 65535, and each entry value 0.5.
+#include <math.h>
+#include <stdint.h>
+#include <stdio.h>
+#include <stdlib.h>
+#include <string.h>
+
+enum { CELLS = 8, DIM = 10, CALLS = 160, POOL = 1200, MATRIX = 300, ENTRIES = 600, BLOCKS = 12, NOTHING = 65535 };
+enum { LOOK = 0, DISTANT = 1, TOUCHING = 2, WRITE = 3 };
+
+// ---- the mesh: edges are numbered as they are met
+
+static int C, V, E, vert[CELLS][3], edge[CELLS][3];
+static const int ends[3][2] = { { 1, 2 }, { 0, 2 }, { 0, 1 } };
+
+static int joins_same(int i, int g, int j, int h) {
+    int a = vert[i][ends[g][0]], b = vert[i][ends[g][1]], c = vert[j][ends[h][0]], d = vert[j][ends[h][1]];
+    return (a == c && b == d) || (a == d && b == c);
+}
+
+static void set_mesh(int cells, const int *vertices) {
+    C = cells;
+    V = E = 0;
+    for (int k = 0; k < 3 * C; k++) {
+        vert[k / 3][k % 3] = vertices[k];
+        if (V <= vertices[k]) V = vertices[k] + 1;
+    }
+    for (int k = 0; k < 3 * C; k++) {
+        int number = -1;
+        for (int l = 0; l < k; l++)
+            if (joins_same(k / 3, k % 3, l / 3, l % 3)) number = edge[l / 3][l % 3];
+        edge[k / 3][k % 3] = number < 0 ? E++ : number;
+    }
+}
+
+static int meet(int list[CELLS][3], int i, int j) {
+    for (int p = 0; p < 9; p++)
+        if (list[i][p / 3] == list[j][p % 3]) return 1;
+    return 0;
+}
+
+// ---- elements: DOFs and colours
+
+struct element { int a, b, c, dim, count, dof[CELLS][DIM], colour[CELLS]; };
+
+static void number_dofs(struct element *e) {
+    int of_vertex[3 * CELLS], of_edge[3 * CELLS], next = 0;
+    memset(of_vertex, -1, sizeof of_vertex);
+    memset(of_edge, -1, sizeof of_edge);
+    e->dim = 3 * e->a + 3 * e->b + e->c;
+    for (int i = 0; i < C; i++) {
+        int k = 0;
+        for (int v = 0; v < 3; v++) {
+            int *first = &of_vertex[vert[i][v]];
+            if (*first < 0) { *first = next; next += e->a; }
+            for (int q = 0; q < e->a; q++) e->dof[i][k++] = *first + q;
+        }
+        for (int g = 0; g < 3; g++) {
+            int *first = &of_edge[edge[i][g]];
+            if (*first < 0) { *first = next; next += e->b; }
+            for (int q = 0; q < e->b; q++) e->dof[i][k++] = *first + q;
+        }
+        for (int q = 0; q < e->c; q++) e->dof[i][k++] = next++;
+    }
+    e->count = next;
+}
+
+static void colour_cells(struct element *e) {
+    for (int i = 0; i < C; i++) {
+        int taken[CELLS + 1] = { 0 }, c = 0;
+        for (int j = 0; j < i; j++)
+            if (e->a > 0 ? meet(vert, i, j) : e->b > 0 ? meet(edge, i, j) : 0) taken[e->colour[j]] = 1;
+        while (taken[c]) c++;
+        e->colour[i] = c;
+    }
+}
+
+// ---- the work list
+
+struct record { int pattern, test, trial; };
+
+static struct record work[CELLS * CELLS];
+static int records, distant_records;
+
+static int smallest_shared(int i, int j) {
+    int least = -1;
+    for (int p = 0; p < 3; p++)
+        for (int q = 0; q < 3; q++)
+            if (vert[i][p] == vert[j][q] && (least < 0 || vert[i][p] < least)) least = vert[i][p];
+    return least;
+}
+
+// the local edge that joins two local vertices
+static int edge_of(int p, int q) { return 3 - p - q; }
+
+static int pattern(int i, int j) {
+    int test[3], trial[3], n = 0;
+    for (int q = 0; q < 3; q++)
+        for (int p = 0; p < 3; p++)
+            if (vert[i][p] == vert[j][q]) { test[n] = p; trial[n++] = q; }
+    if (n == 1) return 3 * test[0] + trial[0];
+    if (n == 2) return 9 + 2 * (3 * edge_of(test[0], test[1]) + edge_of(trial[0], trial[1])) + (test[0] > test[1]);
+    return 27;
+}
+
+// cell number k of a colour, the cells rising; -1 past the last
+static int cell_of(const struct element *e, int colour, int k) {
+    for (int i = 0; i < C; i++)
+        if (e->colour[i] == colour && k-- == 0) return i;
+    return -1;
+}
+
+static void list_work(const struct element *test, const struct element *trial, int batch) {
+    int B = batch < C ? batch : C; // a larger batch holds a whole colour, as this one does
+    records = 0;
+    for (int tc = 0; tc < C; tc++)
+        for (int rc = 0; rc < C; rc++)
+            for (int tb = 0; tb < C; tb++)
+                for (int rb = 0; rb < C; rb++)
+                    for (int q = rb * B; q < rb * B + B; q++)
+                        for (int p = tb * B; p < tb * B + B; p++) {
+                            int i = cell_of(test, tc, p), j = cell_of(trial, rc, q);
+                            if (i >= 0 && j >= 0 && !meet(vert, i, j)) work[records++] = (struct record){ 255, i, j };
+                        }
+    distant_records = records;
+    for (int p = 0; p < 28; p++)
+        for (int v = 0; v < V; v++)
+            for (int i = 0; i < C; i++)
+                for (int j = 0; j < C; j++)
+                    if (smallest_shared(i, j) == v && pattern(i, j) == p) work[records++] = (struct record){ p, i, j };
+}
+
+// ---- the integrand
+
+struct term { int scaled, kind; double factor; };
+struct integrand { int terms; struct term term[2]; };
+
+static int any_kind(const struct integrand *f, int kind) {
+    for (int i = 0; i < f->terms; i++)
+        if (f->term[i].kind == kind) return 1;
+    return 0;
+}
+
+static int kernel_width(const struct integrand *f) { return any_kind(f, 1) || any_kind(f, 2) ? 4 : 1; }
+
+static int table_rows(const struct integrand *f) { return any_kind(f, 3) ? 3 : 1; }
+
+// k: kernel values; t, r: table rows of the test and the trial basis function; tg, rg: jdet, normal 0 to 2, jacobian 0 to 5
+static double kind_value(int kind, const double *k, const double *t, const double *r, const double *tg, const double *rg) {
+    const double *tn = tg + 1, *rn = rg + 1, *tj = tg + 4, *rj = rg + 4;
+    double p[3];
+    switch (kind) {
+    case 0: return k[0] * t[0] * r[0];
+    case 1: return (k[1] * rn[0] + k[2] * rn[1] + k[3] * rn[2]) * t[0] * r[0];
+    case 2: return -(k[1] * tn[0] + k[2] * tn[1] + k[3] * tn[2]) * t[0] * r[0];
+    case 3:
+        for (int m = 0; m < 3; m++) p[m] = (tj[3 + m] * t[1] - tj[m] * t[2]) * (rj[3 + m] * r[1] - rj[m] * r[2]);
+        return k[0] * (p[0] + p[1] + p[2]) / tg[0] / rg[0];
+    default: return k[0] * (rn[0] * tn[0] + rn[1] * tn[1] + rn[2] * tn[2]) * t[0] * r[0];
+    }
+}
+
+static double point_value(const struct integrand *f, const double *k, const double *t, const double *r, const double *tg, const double *rg) {
+    double v[2];
+    for (int i = 0; i < f->terms; i++) {
+        v[i] = kind_value(f->term[i].kind, k, t, r, tg, rg);
+        if (f->term[i].scaled) v[i] = f->term[i].factor * v[i];
+    }
+    return f->terms == 1 ? v[0] : v[0] + v[1];
+}
+
+// ---- a case: what planning and the calls are given, and what the calls leave
+
+struct list { int n; const double *at; };
+
+struct run_case {
+    struct element test, trial;
+    int batch, entries_run, refusal;
+    struct integrand f;
+    int calls[CALLS][11], call_numbers, pool_length, matrix_length, entry_length, answer_numbers, test_dofs_length;
+    double pool[POOL], before[MATRIX];
+    int position, answers[4 * CALLS], rows[ENTRIES], columns[ENTRIES];
+    double matrix[MATRIX], values[ENTRIES];
+};
+
+static struct run_case c;
+
+// list j of a call
+static struct list list_of(const int *call, int j) {
+    int a = call[3 + j], e = call[4 + j];
+    if (a <= e && e <= c.pool_length) return (struct list){ e - a, c.pool + a };
+    return (struct list){ 0, c.pool };
+}
+
+// what an add is lent; of a touching pair the second point count is the first, and there are no trial weights
+struct lent { int T, R; struct list test_weights, trial_weights, test_table, trial_table, kernel, test_geometry, trial_geometry; };
+
+static struct lent lent_of(const int *call) {
+    if (call[0] == DISTANT)
+        return (struct lent){ call[1], call[2], list_of(call, 0), list_of(call, 1), list_of(call, 2), list_of(call, 3), list_of(call, 4), list_of(call, 5),
+                              list_of(call, 6) };
+    return (struct lent){ call[1], call[1], list_of(call, 0), { 0, c.pool }, list_of(call, 1), list_of(call, 2), list_of(call, 3), list_of(call, 4),
+                          list_of(call, 5) };
+}
+
+static double distant_entry(const struct lent *l, int i, int j) {
+    int K = kernel_width(&c.f), D = table_rows(&c.f), T = l->T, R = l->R;
+    double sum = 0.0;
+    for (int t = 0; t < T; t++)
+        for (int r = 0; r < R; r++) {
+            const double *tg = l->test_geometry.at + 10 * t, *rg = l->trial_geometry.at + 10 * r;
+            double value = point_value(&c.f, l->kernel.at + K * (t + T * r), l->test_table.at + D * (t + T * i), l->trial_table.at + D * (r + R * j), tg, rg);
+            double trial = l->trial_weights.at[r] * rg[0], test = l->test_weights.at[t] * tg[0];
+            sum = sum + value * trial * test;
+        }
+    return sum;
+}
+
+static double touching_entry(const struct lent *l, int i, int j) {
+    int K = kernel_width(&c.f), D = table_rows(&c.f), P = l->T;
+    double sum = 0.0;
+    for (int q = 0; q < P; q++) {
+        const double *tg = l->test_geometry.at + 10 * q, *rg = l->trial_geometry.at + 10 * q;
+        double value = point_value(&c.f, l->kernel.at + K * q, l->test_table.at + D * (q + P * i), l->trial_table.at + D * (q + P * j), tg, rg);
+        double jdets = tg[0] * rg[0], weight = l->test_weights.at[q] * jdets;
+        sum = sum + value * weight;
+    }
+    return sum;
+}
+
+// ---- checks 9 to 11
+
+static int all_finite(struct list l) {
+    for (int i = 0; i < l.n; i++)
+        if (!isfinite(l.at[i])) return 0;
+    return 1;
+}
+
+static int jdets_right(struct list geometry) {
+    for (int i = 0; i < geometry.n; i += 10)
+        if (!(geometry.at[i] > 0.0)) return 0;
+    return 1;
+}
+
+static int lent_refusal(const struct lent *l, int distant) {
+    int K = kernel_width(&c.f), D = table_rows(&c.f), T = l->T, R = l->R, most = distant ? 64 : 2048;
+    if (T < 1 || T > most || R < 1 || R > most) return 9;
+    if (l->test_weights.n != T || l->trial_weights.n != (distant ? R : 0) || l->test_table.n != D * T * c.test.dim || l->trial_table.n != D * R * c.trial.dim ||
+        l->kernel.n != (distant ? K * T * R : K * T) || l->test_geometry.n != 10 * T || l->trial_geometry.n != 10 * R)
+        return 10;
+    if (!all_finite(l->test_weights) || !all_finite(l->trial_weights) || !all_finite(l->test_table) || !all_finite(l->trial_table) || !all_finite(l->kernel) ||
+        !all_finite(l->test_geometry) || !all_finite(l->trial_geometry) || !jdets_right(l->test_geometry) || !jdets_right(l->trial_geometry))
+        return 11;
+    return 0;
+}
+
+// ---- the machine: one call
+
+static int seen[32], seen_looks, seen_adds, seen_cases, seen_calls, seen_nan, seen_infinite, cases;
+
+// 21, 20, 23, then 9 to 11: the run's numbers and its plan are planning's own, so 22 turns nothing down, and 21 what is lent alone
+static int call_refusal(const int *call) {
+    int kind = call[0];
+    if ((kind == DISTANT || kind == TOUCHING) && c.matrix_length != c.test.count * c.trial.count) return 21;
+    if (kind == WRITE && c.entry_length != (C * C - distant_records) * c.test.dim * c.trial.dim) return 21;
+    if (c.position == C * C) return 20;
+    if (kind == LOOK) return 0;
+    if ((kind == WRITE) != c.entries_run || (kind == DISTANT) != (work[c.position].pattern == 255)) return 23;
+    struct lent l = lent_of(call);
+    return lent_refusal(&l, kind == DISTANT);
+}
+
+static void put_entries(const int *call) {
+    struct record e = work[c.position];
+    struct lent l = lent_of(call);
+    int place = (c.position - distant_records) * c.test.dim * c.trial.dim;
+    for (int j = 0; j < c.trial.dim; j++)
+        for (int i = 0; i < c.test.dim; i++) {
+            int row = c.test.dof[e.test][i], column = c.trial.dof[e.trial][j];
+            double x = call[0] == DISTANT ? distant_entry(&l, i, j) : touching_entry(&l, i, j);
+            if (call[0] == WRITE) {
+                c.rows[place] = row;
+                c.columns[place] = column;
+                c.values[place++] = x;
+            } else {
+                c.matrix[row + c.test.count * column] = c.matrix[row + c.test.count * column] + x;
+            }
+        }
+    c.position++;
+}
+
+static void play(const int *call, int *answer) {
+    int refusal = call_refusal(call);
+    struct record e = c.position < records ? work[c.position] : (struct record){ 0, 0, 0 };
+    if (refusal) memcpy(answer, (int[4]){ 2, refusal, 0, 0 }, 4 * sizeof(int));
+    else if (call[0] == LOOK) memcpy(answer, (int[4]){ 0, e.pattern, e.test, e.trial }, 4 * sizeof(int));
+    else {
+        memcpy(answer, (int[4]){ 1, 0, 0, 0 }, 4 * sizeof(int));
+        put_entries(call);
+    }
+    seen_calls++;
+    if (refusal) seen[refusal]++;
+    else if (call[0] == LOOK) seen_looks++;
+    else seen_adds++;
+}
+
+// ---- the generator (splitmix64) and its numbers
+
+static uint64_t state = 20261116;
+
+static uint64_t draw(void) {
+    uint64_t z = state += 0x9e3779b97f4a7c15u;
+    z = (z ^ (z >> 30)) * 0xbf58476d1ce4e5b9u;
+    z = (z ^ (z >> 27)) * 0x94d049bb133111ebu;
+    return z ^ (z >> 31);
+}
+
+static int below(int n) { return (int)(draw() % (uint64_t)n); }
+
+static uint64_t to_bits(double x) {
+    uint64_t b;
+    memcpy(&b, &x, 8);
+    return x != x ? 0x7ff8000000000000u : b;
+}
+
+// from -2 to 2, now and then a signed zero
+static double number(void) {
+    if (below(40) == 0) return below(2) ? 0.0 : -0.0;
+    return ldexp((double)(draw() >> 11), -51) - 2.0;
+}
+
+static double positive(void) { return 0.25 + fabs(number()); }
+
+// ---- what is lent: blocks of the pool, each the lists of one add
+
+enum fault { RIGHT, INFINITE, JDET_ZERO, JDET_NEGATIVE };
+struct block { int kind, T, R, place[8]; enum fault fault; };
+
+static struct block blocks[BLOCKS];
+static int block_count;
+
+static double *grow(int n) {
+    double *at = c.pool + c.pool_length;
+    if (c.pool_length + n > POOL) exit(1);
+    for (int i = 0; i < n; i++) at[i] = number();
+    c.pool_length += n;
+    return at;
+}
+
+static void add_block(int kind, int T, int R, enum fault fault) {
+    struct block *b = &blocks[block_count++];
+    int K = kernel_width(&c.f), D = table_rows(&c.f), distant = kind == DISTANT, n = 0, start = c.pool_length;
+    const int lengths[7] = { T, distant ? R : 0, D * T * c.test.dim, D * R * c.trial.dim, distant ? K * T * R : K * T, 10 * T, 10 * R };
+    *b = (struct block){ .kind = kind, .T = T, .R = R, .fault = fault };
+    b->place[n++] = start;
+    for (int j = 0; j < 7; j++) {
+        double *at = grow(lengths[j]);
+        if (j >= 5)
+            for (int p = 0; p < lengths[j]; p += 10) at[p] = positive();
+        if (j == 5 && fault == JDET_ZERO) at[10 * (T - 1)] = 0.0;
+        if (j == 6 && fault == JDET_NEGATIVE) at[10 * (R - 1)] = -1.0;
+        if (j != 1 || distant) b->place[n++] = c.pool_length;
+    }
+    if (!distant) b->place[n] = c.pool_length;
+    if (fault == INFINITE) c.pool[start + below(c.pool_length - start)] = below(2) ? INFINITY : -INFINITY;
+}
+
+static const struct block *any_block(int kind, enum fault fault) {
+    for (;;) {
+        const struct block *b = &blocks[below(block_count)];
+        if (b->kind == kind && b->fault == fault) return b;
+    }
+}
+
+// ---- lists of calls
+
+static int call_count;
+
+static int *next_call(int kind, const struct block *b) {
+    int *call = c.calls[call_count++];
+    if (call_count > CALLS) exit(1);
+    memset(call, 0, 11 * sizeof(int));
+    call[0] = kind;
+    if (b) {
+        call[1] = b->T;
+        call[2] = kind == DISTANT ? b->R : 0;
+        memcpy(call + 3, b->place, sizeof b->place);
+    }
+    return call;
+}
+
+static void play_next(const int *call) { play(call, c.answers + 4 * (call_count - 1)); }
+
+static void look(void) { play_next(next_call(LOOK, NULL)); }
+
+// A call of that kind with blocks of its own kind (the entries call takes touching ones): right, or turned down by 9, 10 or 11.
+static void ask(int kind) {
+    play_next(next_call(kind, any_block(kind == DISTANT ? DISTANT : TOUCHING, RIGHT)));
+}
+
+static void ask_wrong(int kind) {
+    int blocks_of = kind == DISTANT ? DISTANT : TOUCHING, d = below(8), lists = kind == DISTANT ? 7 : 6;
+    int *call = next_call(kind, any_block(blocks_of, d < 5 ? RIGHT : d == 5 ? INFINITE : d == 6 ? JDET_ZERO : JDET_NEGATIVE));
+    if (d == 0) call[1] = 0;
+    if (d == 1) call[kind == DISTANT ? 2 : 1] = kind == DISTANT ? 65 : 2049;
+    if (d == 2) call[3 + 1 + below(lists - 1)]++;
+    if (d == 3) call[3 + lists] = c.pool_length + 1;
+    if (d == 4) call[1]++;
+    play_next(call);
+}
+
+// Every record is added (or written), with looks, adds of the other kind and wrong calls before it; then calls after the end.
+static void play_whole(int with_entries) {
+    while (c.position < C * C) {
+        int right = c.entries_run ? WRITE : work[c.position].pattern == 255 ? DISTANT : TOUCHING;
+        int other = with_entries ? 1 + below(3) : DISTANT + TOUCHING - right, d = below(12);
+        if (call_count > CALLS - 8 - (C * C - c.position)) d = 11;
+        if (d == 0) look();
+        else if (d < 3 && other != right) ask(other);
+        else if (d < 5) ask_wrong(right);
+        else ask(right);
+    }
+    look();
+    ask(DISTANT);
+    ask(TOUCHING);
+    if (with_entries) ask(WRITE);
+    ask_wrong(DISTANT);
+}
+
+// Some calls of each kind, in no order.
+static void play_some(int n, int with_entries) {
+    for (int k = 0; k < n; k++) {
+        int kind = below(with_entries ? 4 : 3);
+        if (kind == LOOK) look();
+        else if (below(2)) ask(kind);
+        else ask_wrong(kind);
+    }
+}
+
+// ---- cases
+
+static const int paper[] = { 0, 1, 2, 1, 3, 2, 4, 5, 6 };
+static const int octahedron[] = { 0, 2, 4, 2, 1, 4, 1, 3, 4, 3, 0, 4, 2, 0, 5, 1, 2, 5, 3, 1, 5, 0, 3, 5 };
+static const int by_edge[] = { 0, 1, 2, 2, 1, 3 }, by_vertex[] = { 0, 1, 2, 3, 2, 4 }, apart[] = { 0, 1, 2, 3, 4, 5 }, twice[] = { 0, 1, 2, 0, 1, 2 },
+                 turned[] = { 0, 1, 2, 1, 2, 0 };
+static const struct { int cells; const int *vertices; } meshes[] = {
+    { 3, paper }, { 8, octahedron }, { 2, by_edge }, { 2, by_vertex }, { 2, apart }, { 2, twice }, { 1, paper }, { 2, turned }
+};
+enum mesh { PAPER, OCTAHEDRON, BY_EDGE, BY_VERTEX, APART, TWICE, ALONE, TURNED };
+
+static const struct integrand single = { 1, { { 0, 0, 0 } } };
+
+static struct integrand bare(int kind) { return (struct integrand){ 1, { { 0, kind, 0 } } }; }
+
+static struct integrand scaled(int kind) { return (struct integrand){ 1, { { 1, kind, number() } } }; }
+
+static struct integrand two(int s1, int k1, int s2, int k2) {
+    return (struct integrand){ 2, { { s1, k1, s1 ? number() : 0.0 }, { s2, k2, s2 ? number() : 0.0 } } };
+}
+
+static void begin(enum mesh mesh, const int test[3], const int trial[3], int batch, struct integrand f, int entries_run) {
+    memset(&c, 0, sizeof c);
+    call_count = block_count = 0;
+    set_mesh(meshes[mesh].cells, meshes[mesh].vertices);
+    c.test = (struct element){ .a = test[0], .b = test[1], .c = test[2] };
+    c.trial = (struct element){ .a = trial[0], .b = trial[1], .c = trial[2] };
+    c.batch = batch;
+    c.f = f;
+    c.entries_run = entries_run;
+    number_dofs(&c.test);
+    number_dofs(&c.trial);
+    colour_cells(&c.test);
+    colour_cells(&c.trial);
+    if (batch > 0) list_work(&c.test, &c.trial, batch);
+    c.position = entries_run ? distant_records : 0;
+    c.test_dofs_length = C * c.test.dim;
+    c.matrix_length = c.test.count * c.trial.count;
+    if (c.matrix_length > MATRIX) exit(1);
+    for (int i = 0; i < c.matrix_length; i++) c.before[i] = number();
+    for (int i = 0; i < 4 * CALLS; i++) c.answers[i] = NOTHING;
+    for (int i = 0; i < ENTRIES; i++) {
+        c.rows[i] = c.columns[i] = NOTHING;
+        c.values[i] = 0.5;
+    }
+    for (int k = 0; k < 2; k++) {
+        add_block(DISTANT, 1 + below(2), 1 + below(3), RIGHT);
+        add_block(TOUCHING, 1 + k, 1 + k, RIGHT);
+    }
+    for (enum fault fault = INFINITE; fault <= JDET_NEGATIVE; fault++) {
+        add_block(DISTANT, 1, 1, fault);
+        add_block(TOUCHING, 1, 1, fault);
+    }
+    memcpy(c.matrix, c.before, sizeof c.matrix);
+}
+
+static void with_entry_lists(int more) {
+    c.entry_length = (C * C - distant_records) * c.test.dim * c.trial.dim + more;
+    if (c.entry_length > ENTRIES) exit(1);
+}
+
+// ---- words
+
+static int column;
+
+static void word(uint64_t x) { printf(column++ ? " %016llx" : "%016llx", (unsigned long long)x); }
+
+static void numbers(const int *list, int n) {
+    for (int i = 0; i < n; i += 4) {
+        uint64_t x = 0;
+        for (int k = i; k < i + 4; k++) x = x << 16 | (uint64_t)(k < n ? list[k] : 0);
+        word(x);
+    }
+}
+
+static void floats(const double *list, int n) {
+    for (int i = 0; i < n; i++) word(to_bits(list[i]));
+}
+
+static void end_line(void) {
+    printf("\n");
+    column = 0;
+}
+
+static void write_case(void) {
+    const int digits[16] = { c.test.a, c.test.b, c.test.c, c.trial.a, c.trial.b, c.trial.c, c.f.terms, c.f.term[0].scaled, c.f.term[0].kind, c.f.term[1].scaled,
+                             c.f.term[1].kind, c.entries_run, c.refusal };
+    const int sizes[4] = { C, V, E, c.batch };
+    const int lengths[16] = { 3 * C, c.test_dofs_length, C * c.trial.dim, C, 3 * C * c.test.dim, 3 * C * c.trial.dim, 3 * C * C, c.call_numbers, c.pool_length,
+                              c.matrix_length, c.entry_length, c.answer_numbers, c.position };
+    uint64_t forms = 0;
+    for (int i = 0; i < 16; i++) forms = forms << 4 | (uint64_t)digits[i];
+    numbers(sizes, 4);
+    word(forms);
+    word(to_bits(c.f.term[0].factor));
+    word(to_bits(c.f.term[1].factor));
+    numbers(lengths, 16);
+    numbers(&vert[0][0], 3 * C);
+    numbers(&edge[0][0], 3 * C);
+    numbers(&c.calls[0][0], c.call_numbers);
+    floats(c.pool, c.pool_length);
+    floats(c.before, c.matrix_length);
+    numbers(c.answers, c.answer_numbers);
+    floats(c.matrix, c.matrix_length);
+    numbers(c.rows, c.entry_length);
+    numbers(c.columns, c.entry_length);
+    floats(c.values, c.entry_length);
+    end_line();
+    seen_cases++;
+    for (int i = 0; i < c.matrix_length; i++) {
+        seen_nan += isnan(c.matrix[i]) != 0;
+        seen_infinite += isinf(c.matrix[i]) != 0;
+    }
+}
+
+static void head(int n) {
+    cases = n;
+    word((uint64_t)n);
+    end_line();
+}
+
+static void finish(void) {
+    c.call_numbers = 11 * call_count;
+    c.answer_numbers = 4 * call_count;
+    write_case();
+}
+
+// ---- the two files
+
+static const int vertices_1[] = { 1, 0, 0 }, edges_1[] = { 0, 1, 0 }, cells_1[] = { 0, 0, 1 }, cells_2[] = { 0, 0, 2 }, dim_4[] = { 1, 0, 1 }, dim_6[] = { 1, 1, 0 },
+                 dim_10[] = { 1, 1, 4 }, dim_11[] = { 1, 1, 5 };
+
+static void dense_whole(enum mesh mesh, const int test[3], const int trial[3], int batch, struct integrand f) {
+    begin(mesh, test, trial, batch, f, 0);
+    play_whole(0);
+    finish();
+}
+
+// the calls that are there are not played: planning refuses
+static void refused(enum mesh mesh, const int test[3], int batch, struct integrand f, int dofs_more, int refusal) {
+    begin(mesh, vertices_1, vertices_1, batch, f, 0);
+    next_call(DISTANT, any_block(DISTANT, RIGHT));
+    next_call(TOUCHING, any_block(TOUCHING, RIGHT));
+    c.test.a = test[0], c.test.b = test[1], c.test.c = test[2];
+    c.test_dofs_length += dofs_more;
+    c.refusal = refusal;
+    finish();
+}
+
+static void dense_file(void) {
+    head(38);
+    // whole runs
+    dense_whole(PAPER, vertices_1, vertices_1, 2, single);
+    dense_whole(PAPER, dim_6, vertices_1, 1, two(0, 1, 1, 3));
+    dense_whole(PAPER, cells_1, cells_1, 65535, bare(4));
+    dense_whole(OCTAHEDRON, dim_6, vertices_1, 1, two(1, 2, 0, 0));
+    dense_whole(OCTAHEDRON, edges_1, cells_1, 3, scaled(1));
+    dense_whole(BY_EDGE, dim_10, dim_10, 1, bare(3));
+    dense_whole(BY_VERTEX, dim_10, cells_2, 1, two(1, 3, 1, 4));
+    dense_whole(APART, dim_4, dim_6, 2, two(0, 0, 0, 2));
+    dense_whole(TWICE, vertices_1, dim_4, 1, bare(2));
+    dense_whole(ALONE, dim_10, dim_10, 1, bare(1));
+    // each kind, bare and with a factor, and pairs of kinds, over the meshes and dims
+    static const int *const dims[] = { cells_1, vertices_1, dim_4, edges_1, dim_6, cells_2 };
+    for (int k = 0; k < 15; k++) {
+        static const enum mesh round[] = { PAPER, BY_EDGE, APART, BY_VERTEX };
+        struct integrand f = k < 5 ? bare(k) : k < 10 ? scaled(k - 5) : two(k & 1, k - 10, 1, (2 * k + 1) % 5);
+        dense_whole(round[k % 4], dims[k % 6], dims[(2 * k + 1) % 5], 1 + k % 3, f);
+    }
+    // a matrix of the wrong length
+    for (int more = -1; more < 2; more += 2) {
+        begin(PAPER, vertices_1, cells_1, 1, single, 0);
+        c.matrix_length += more;
+        play_some(12, 0);
+        finish();
+    }
+    // no call; fewer answers than calls, and a call that is not whole; more room than answers
+    begin(PAPER, vertices_1, vertices_1, 1, single, 0);
+    finish();
+    begin(APART, vertices_1, cells_1, 1, single, 0);
+    ask(DISTANT);
+    look();
+    ask(DISTANT);
+    c.call_numbers = 11 * call_count + 5;
+    c.answer_numbers = 4 * call_count + 3;
+    next_call(LOOK, NULL);
+    write_case();
+    begin(APART, vertices_1, cells_1, 1, single, 0);
+    ask(DISTANT);
+    ask(DISTANT);
+    next_call(TOUCHING, any_block(TOUCHING, RIGHT));
+    c.call_numbers = 11 * call_count;
+    c.answer_numbers = 4 * (call_count - 1) + 2;
+    write_case();
+    // sums that overflow, and infinity minus infinity
+    begin(BY_EDGE, vertices_1, vertices_1, 1, (struct integrand){ 1, { { 1, 0, 1e308 } } }, 0);
+    for (int i = 0; i < c.matrix_length; i++) c.before[i] = i % 3 == 0 ? INFINITY : 1.5e308;
+    memcpy(c.matrix, c.before, sizeof c.matrix);
+    play_whole(0);
+    finish();
+    // planning refuses
+    refused(PAPER, dim_11, 1, single, 0, 4);
+    refused(PAPER, vertices_1, 0, single, 0, 5);
+    refused(PAPER, vertices_1, 1, bare(5), 0, 6);
+    refused(TURNED, vertices_1, 1, single, 0, 7);
+    refused(PAPER, vertices_1, 1, single, 1, 8);
+    // a batch of 0 in the same call as a list of the wrong length: the first check answers
+    refused(PAPER, vertices_1, 0, single, 1, 5);
+    // a second term that is not read
+    begin(PAPER, vertices_1, vertices_1, 1, (struct integrand){ 1, { { 0, 0, 0 }, { 1, 9, INFINITY } } }, 0);
+    play_whole(0);
+    finish();
+}
+
+static void entries_whole(enum mesh mesh, const int test[3], const int trial[3], int batch, struct integrand f, int entries_run) {
+    begin(mesh, test, trial, batch, f, entries_run);
+    with_entry_lists(0);
+    play_whole(1);
+    finish();
+}
+
+static void entries_file(void) {
+    head(20);
+    // whole entries runs
+    entries_whole(PAPER, vertices_1, vertices_1, 2, single, 1);
+    entries_whole(PAPER, dim_6, vertices_1, 1, two(0, 1, 1, 3), 1);
+    entries_whole(OCTAHEDRON, vertices_1, vertices_1, 1, two(1, 2, 0, 0), 1);
+    entries_whole(BY_EDGE, dim_10, dim_10, 1, bare(3), 1);
+    entries_whole(TWICE, dim_6, cells_2, 1, scaled(4), 1);
+    entries_whole(APART, dim_4, edges_1, 1, two(1, 4, 1, 0), 1);
+    for (int kind = 0; kind < 5; kind++) entries_whole(kind % 2 ? BY_VERTEX : PAPER, edges_1, dim_4, 1, scaled(kind), 1);
+    // dense runs that are asked an entries call
+    entries_whole(PAPER, vertices_1, vertices_1, 2, single, 0);
+    entries_whole(OCTAHEDRON, vertices_1, cells_1, 2, bare(1), 0);
+    entries_whole(APART, dim_6, cells_1, 1, bare(3), 0);
+    // entry lists, then the matrix, of the wrong length
+    for (int k = 0; k < 4; k++) {
+        begin(PAPER, vertices_1, cells_1, 1, single, k % 2);
+        with_entry_lists(k < 2 ? 1 - 2 * k : 0);
+        if (k >= 2) c.matrix_length--;
+        play_some(16, 1);
+        finish();
+    }
+    // two cells apart: two touching records, each a cell with itself
+    begin(APART, cells_1, cells_1, 1, single, 1);
+    with_entry_lists(0);
+    ask(WRITE);
+    ask(WRITE);
+    ask(WRITE);
+    finish();
+    // planning refuses
+    begin(PAPER, vertices_1, vertices_1, 1, single, 1);
+    with_entry_lists(0);
+    next_call(WRITE, any_block(TOUCHING, RIGHT));
+    c.batch = 0;
+    c.refusal = 5;
+    c.position = 0;
+    finish();
+}
+
+int main(int argc, char **argv) {
+    if (argc == 2 && strcmp(argv[1], "dense") == 0) dense_file();
+    else if (argc == 2 && strcmp(argv[1], "entries") == 0) entries_file();
+    else {
+        fprintf(stderr, "record_calls dense | entries\n");
+        return 1;
+    }
+    fprintf(stderr, "%d cases, %d calls: %d looks, %d adds", seen_cases, seen_calls, seen_looks, seen_adds);
+    for (int i = 0; i < 32; i++)
+        if (seen[i]) fprintf(stderr, ", %d of %d", seen[i], i);
+    fprintf(stderr, "; %d infinite, %d NaN\n", seen_infinite, seen_nan);
+    return seen_cases != cases;
+}
