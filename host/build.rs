@@ -1,4 +1,4 @@
-//! Finds libbempp.a: in the folder that SEIVALTO_LIB_DIR names, else in target/staticlib of this repository.
+//! Finds libseivalto.a: in the folder that SEIVALTO_LIB_DIR names, else in target/staticlib of this repository.
 use std::env;
 use std::path::PathBuf;
 
@@ -9,13 +9,13 @@ fn main() {
         None => PathBuf::from(env::var_os("CARGO_MANIFEST_DIR").expect("cargo sets it"))
             .join("../target/staticlib"),
     };
-    let library = folder.join("libbempp.a");
+    let library = folder.join("libseivalto.a");
     println!("cargo:rerun-if-changed={}", library.display());
     if !library.is_file() {
         eprintln!("{} is not there.", library.display());
-        eprintln!("Run `rt staticlib bempp` at the top of the repository, or set SEIVALTO_LIB_DIR to a folder that holds libbempp.a.");
+        eprintln!("Run `rt staticlib seivalto` at the top of the repository, or set SEIVALTO_LIB_DIR to a folder that holds libseivalto.a.");
         std::process::exit(1);
     }
     println!("cargo:rustc-link-search=native={}", folder.display());
-    println!("cargo:rustc-link-lib=static=bempp");
+    println!("cargo:rustc-link-lib=static=seivalto");
 }

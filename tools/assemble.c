@@ -1,7 +1,7 @@
-/* Writes the file stdout of the program assembly_runs: whole assemblies on mesh M of the paper and on an octahedron.
+/* Writes what host/check/assemble.c has to print: whole assemblies on mesh M of the paper and on an octahedron.
  * Written from the paper alone, by the plainest means: each list is what its sentence says, found by search, and a local entry is summed on its own.
  * The answers 23, 9, 10 and 20 are known from the order of the calls, not worked out by checks.
- *   cc -O0 -ffp-contract=off -o assemble tools/assemble.c && ./assemble > crates/assembly_runs/stdout
+ *   cc -O0 -ffp-contract=off -o assemble tools/assemble.c && ./assemble
  */
 #include <inttypes.h>
 #include <stdint.h>

@@ -1,5 +1,5 @@
-/* Whole assemblies on mesh M of the paper and on an octahedron, through include/seivalto.h: it makes the calls of the program assembly_runs, with the same
- * numbers, and prints what that prints. */
+/* Whole assemblies on mesh M of the paper and on an octahedron, through include/seivalto.h: it prints what tools/assemble.c prints, which
+ * works the same numbers out from the paper, without the library. */
 #include <inttypes.h>
 #include <stdio.h>
 #include <stdlib.h>

@@ -1,11 +1,29 @@
-/* Seivalto: the boundary assembler, for C. The functions are those of the crate `bempp` (crates/bempp), in libbempp.a, which `rt staticlib bempp` writes.
+/* Seivalto: the boundary assembler, for C. On a mesh of triangles it numbers the DOFs, lists every ordered pair of cells once, and adds up the dense Galerkin
+ * matrix of a boundary operator. The host brings the mesh and, pair by pair, kernel values, geometry, tables of basis functions and weights. Entry (i, j) of
+ * the matrix belongs to test DOF i and trial DOF j: it sums, over test points x and trial points y, weights * test function i at x * kernel(x, y) * trial
+ * function j at y, in the form that the terms of the integrand say.
+ *
+ * The functions are those of the crate `seivalto` (crates/seivalto), in libseivalto.a, which `rt staticlib seivalto` writes for x86-64 Linux. It needs no
+ * other library: cc host.c libseivalto.a.
+ *
+ * The calls, in order:
+ *   1. seivalto_plan is given mesh, elements, batch and integrand, and writes the lists; its numbers say how large the matrix is.
+ *   2. seivalto_begin turns the numbers into a run. The host makes a matrix of rows * columns doubles, all 0, or holding what is to be added to.
+ *   3. seivalto_look answers the record of the next pair: pattern, test cell, trial cell. Refusal 20 says that none is left: the matrix is finished.
+ *   4. At pattern 255 seivalto_add_distant, at any other seivalto_add_touching, is lent the numbers of this pair. Then 3 again.
+ * For the touching pairs alone, as a list of entries, 2 is seivalto_begin_entries and 4 is seivalto_add_entries. The plan, which is test_dofs, trial_dofs and
+ * work as planning wrote them, is lent to every call of 3 and 4. "What an add is lent", before the adds, says what each lent number is.
  *
  * Every function answers every argument: bad meshes, elements, lengths, numbers and runs get a refusal. A refused call changes neither the run nor any list
  * that it was lent. That is proved. What no proof can hold is the caller's part:
  *   - each pointer is aligned and not null, also that of an empty list, and the length after it is the number of elements that stand there;
  *   - a list that is written (one without const) overlaps no other list of the same call, and no other thread touches it, or writes into a list that is
  *     only read, during the call;
- *   - some 200 KiB of stack are free.
+ *   - the floating-point state is the default one, MXCSR 0x1F80: round to nearest, no flush to zero, no denormals-are-zero, every exception masked. A program
+ *     linked with -ffast-math may begin in another one;
+ *   - some 200 KiB of stack are free;
+ *   - of a run only the value last handed back is used, with one matrix. An older value adds a pair again, and nothing can tell;
+ *   - the lent numbers mean what "What an add is lent" says. The checks see lengths, numbers that are not finite, and jdets, and nothing else.
  *
  * Refusals: 0 is none. Planning:
  *    1  cells not from 1 to 2,048, or cell_vertices not 3 * cells long
@@ -15,7 +33,7 @@
  *    4  dim of an element, 3 * a + 3 * b + c, not from 1 to 10
  *    5  batch not from 1 to 65,535
  *    6  terms not 1 or 2, a kind above 4, or a factor that is not finite
- *    7  three shared vertices in another order
+ *    7  two cells that have the same three vertices, in another order
  *    8  a list of the wrong length
  * Adds and the entries call:
  *    9  a point count out of its range
@@ -38,7 +56,9 @@
 extern "C" {
 #endif
 
-/* DOFs per vertex (a), per edge (b) and per cell (c). dim = 3 * a + 3 * b + c; the local order is vertices, edges, interior. */
+/* DOFs per vertex (a), per edge (b) and per cell (c). dim = 3 * a + 3 * b + c. The local order is vertices 0, 1, 2, edges 0, 1, 2, interior; the DOFs of one
+ * vertex or edge stand together. So c = 1 is P0, a = 1 continuous P1, a = b = 1 continuous P2, c = 3 discontinuous P1. Where b is 2 or more, the DOFs of an
+ * edge have the same order in each cell that has the edge, whichever way round it runs there, and the host orders its basis functions so. */
 typedef struct {
     uint32_t a;
     uint32_t b;
@@ -46,8 +66,10 @@ typedef struct {
 } seivalto_element;
 
 /* A term. scaled: 0 for a bare term, whose factor is not read; any other number for one that carries the factor.
- * kind: 0 single layer, 1 double layer, 2 adjoint, 3 curl-curl, 4 normal-normal. The value of a bare term at a test and a trial point, where
- * t, t1, t2 are table rows 0, 1, 2 of a test basis function, r, r1, r2 those of a trial one, k0 to k3 kernel numbers, n a normal and J a jacobian:
+ * kind: 0 single layer, 1 double layer, 2 adjoint double layer, 3 curl-curl, 4 normal-normal. The hypersingular operator, minus the normal derivative of the
+ * double layer potential, is kind 3 alone for Laplace, and for Helmholtz two terms: kind 3, bare, and kind 4 with the factor -k * k, k the wave number.
+ * The value of a bare term at a test and a trial point, where t, t1, t2 are table rows 0, 1, 2 of a test basis function, r, r1, r2 those of a trial one, k0 to
+ * k3 kernel numbers, n a normal and J a jacobian:
  *   0  k0 * t * r
  *   1  (k1 * n0 + k2 * n1 + k3 * n2) * t * r       with the trial normal
  *   2  (-(k1 * n0 + k2 * n1 + k3 * n2)) * t * r    with the test normal
@@ -64,8 +86,8 @@ typedef struct {
 
 /* terms: 1 or 2; where it is 1 the second term is not read, where it is 2 the value is that of the first plus that of the second.
  * K, the kernel numbers of a point, is 4 (k0 to k3) if a kind is 1 or 2, else 1 (k0).
- * D, the rows of a table, is 3 if a kind is 3, else 1: row 0 is the value of a basis function, row 1 its first derivative, row 2 its derivative in the
- * second direction. */
+ * D, the rows of a table, is 3 if a kind is 3, else 1: row 0 is the value of a basis function, rows 1 and 2 are its derivatives in the first and in the
+ * second reference direction. */
 typedef struct {
     uint32_t terms;
     seivalto_term first;
@@ -100,10 +122,11 @@ typedef struct {
     uint32_t position;
 } seivalto_run;
 
-/* A record of the work list. pattern: 255 for a distant pair. Of a touching pair, by the vertices that its cells share, at which local places:
+/* A record of the work list. pattern: 255 for a distant pair, whose cells share no vertex. Of a touching pair, by the vertices that its cells share, at which
+ * local places:
  *   one, at i of the test cell and j of the trial cell    3 * i + j
  *   two, edge e of the test cell and g of the trial cell  9 + 2 * (3 * e + g), and 1 more if the first vertex of g is the second of e
- *   three, each at the same place of both cells           27 */
+ *   three, each at the same place of both cells           27; a cell with itself is such a pair */
 typedef struct {
     uint32_t pattern;
     uint32_t test_cell;
@@ -123,12 +146,14 @@ typedef struct {
     seivalto_run run;
 } seivalto_added;
 
-/* Plans, and writes seven lists. cell_vertices and cell_edges: three numbers a cell; local edges 0, 1, 2 join local vertices (1,2), (0,2), (0,1).
- * batch: cells of a colour that are taken together. With C = cells, these lengths are asked:
+/* Plans, and writes seven lists. cell_vertices and cell_edges: three numbers a cell, from 0 on; local edges 0, 1, 2 join local vertices (1,2), (0,2), (0,1).
+ * Edge places that join the same two vertices have the same number, all others different ones. Vertices and edges that no cell has are allowed.
+ * batch: how many cells of a colour are taken together, 128 say; it decides the order of the distant records and nothing else.
+ * With C = cells, these lengths are asked:
  *   test_dofs, trial_dofs        C * dim       DOF numbers of each cell
  *   test_colours, trial_colours  C             colour of each cell
  *   test_owners, trial_owners    3 * C * dim   dimension, entity, place on it, for each DOF; what is past the last DOF is left as it was
- *   work                         3 * C * C     the records
+ *   work                         3 * C * C     the records: each ordered pair of cells once, distant ones first
  * test_dofs, trial_dofs and work are the plan, which the calls of a run are lent. */
 seivalto_planned seivalto_plan(
     uint32_t cells, uint32_t vertices, uint32_t edges,
@@ -155,6 +180,45 @@ seivalto_looked seivalto_look(
     const uint32_t *test_dofs, size_t test_dofs_length,
     const uint32_t *trial_dofs, size_t trial_dofs_length,
     const uint32_t *work, size_t work_length);
+
+/* What an add is lent. x is a point of the test cell, y one of the trial cell. Every number has to be finite, whether a kind reads it or not.
+ *
+ * Reference triangle. Its corners 0, 1, 2 are (0,0), (1,0), (0,1), and stand for the three vertices of a cell in their local order. The weights of a rule on
+ * it sum to 1/2. A touching pair has one rule for both cells, of pairs of points (u, v), u for the test cell and v for the trial cell; its weights sum to 1/4.
+ *
+ * Geometry of a point. J is the jacobian of the map from the reference triangle to the cell: J0 to J2 is the derivative along the first reference direction,
+ * J3 to J5 along the second. In a flat cell with vertices A, B, C these are B - A and C - A. jdet is the length of (J0,J1,J2) x (J3,J4,J5), which is twice
+ * the area of a flat cell; it is above 0. The normal has length 1. Kinds 1, 2 and 4 read the normal; kind 3 reads J, and not the normal. So all cells have to
+ * be oriented alike; for a cell that is listed the other way round, so that (J0,J1,J2) x (J3,J4,J5) points against its normal, lend -J, all six numbers.
+ * Kind 3 is then k0 times the inner product of n x grad test and n x grad trial.
+ *
+ * Kernel. k0 is the kernel G(x, y), for Laplace 1 / (4 pi |x - y|). k1 to k3 is the gradient of G with respect to the trial point y, for Laplace
+ * (x - y) / (4 pi |x - y|^3). Kind 1 is then the double layer operator and kind 2 its adjoint; the gradient with respect to x would turn the sign of both.
+ * A complex kernel takes two runs, one with its real part and one with its imaginary part, each with a matrix of its own.
+ *
+ * Table. Values and derivatives of the basis functions of the reference triangle, at the points of the rule, in the local order of the DOFs.
+ *
+ * Rules of distant pairs. Any rule of the reference triangle, for either cell; each pair may have its own.
+ *
+ * Rules of touching pairs. The kernel is singular where the cells touch, and the rule has to be made for it, as those of Sauter and Schwab are: one for cells
+ * that share corner 0, one for cells that share edge 0-1 with corner 0 on corner 0 and 1 on 1, one for a cell with itself. Such a rule is turned by the
+ * pattern p of the record, so that the corner or edge for which it is made goes to the places that the cells share. These are, in C's division:
+ *   p < 9          i = p / 3, j = p % 3: place i of the test cell is place j of the trial cell
+ *   9 <= p < 27    e = (p - 9) / 6, g = (p - 9) / 2 % 3, flip = (p - 9) % 2: edge e of the test cell, whose places are e0, e1, is edge g of the trial cell,
+ *                  whose places are g0, g1 (edges 0, 1, 2 have the places 1 and 2, 0 and 2, 0 and 1); e0 is g0 and e1 is g1, with flip e0 is g1 and e1 is g0
+ *   p = 27         each place is the same place
+ * Corners 0, 1, 2 of the rule go, in the test and in the trial cell, to these places, where "rest" is what is left, in any order:
+ *   p < 9          i, rest          j, rest
+ *   9 <= p < 27    e0, e1, rest     g0, g1, rest, with flip g1, g0, rest
+ *   p = 27         0, 1, 2          0, 1, 2
+ * A point (s, t) of the rule becomes (1 - s - t) * Q0 + s * Q1 + t * Q2, where Qk is the corner of the reference triangle at the place to which corner k
+ * goes. Weights stay as they are. Table, geometry and kernel are those at the turned points. With the turn of one pattern left out the result is smooth and
+ * wrong, and no check sees it. For a cell with itself 2,048 points are room for a rule of Sauter and Schwab with four points a direction, 6 * 4^4 points, whose
+ * error was 1.6e-4; an uneven product, 6 * (4 * 3 * 3 * 9), had 1.7e-8.
+ *
+ * Tests of a host. Let V, K, K', W be the matrices of kinds 0, 1, 2, 3 for Laplace, M the mass matrix for the same test and trial element, and the normals
+ * outward. Then, on a closed polyhedron, K 1 = -M 1 / 2, V n = M x / 2 + K x, W x = M n / 2 - K' n, and K' is the transpose of K, up to rounding and
+ * quadrature. Here 1 and the coordinates x are trial functions with a = 1, and the components of the normal n are trial functions with c = 1. */
 
 /* Adds the local matrix of the distant pair at the run's position. T = test_points and R = trial_points are from 1 to 64. These lengths are asked:
  *   test_weights T, trial_weights R

@@ -1,14 +1,19 @@
-//! The boundary assembler, for Rust: a safe crate over the static library of `crates/bempp`. Each function is one call of the library, which makes every test
-//! itself. `include/seivalto.h` says what each argument means and which lengths are asked.
+//! The boundary assembler, for Rust: a safe crate over the static library of `crates/seivalto`. Each function is one call of the library, which makes every test
+//! itself. `include/seivalto.h` says what each argument means, which lengths are asked, and what the lent numbers are: gradient, jacobian, orientation, rules
+//! and how the pattern turns them.
 //!
-//! The calls need some 200 KiB of stack.
+//! [`plan`], [`Numbers::begin`], then [`Run::look`] and the add of the record's kind, until look answers [`Refusal::NoRecordLeft`].
+//!
+//! Pointers, lengths and overlap, which the header names among a host's duties, are met by the types. The others stay: some 200 KiB of stack are free; the
+//! floating-point state is the default one, round to nearest, no flush to zero, no denormals-are-zero, exceptions masked; of a run only the value last handed
+//! back is used, since a [`Run`] is `Copy` and an older one adds a pair again; the lent numbers mean what the header says.
 mod ffi;
 
 use std::fmt;
 
 use ffi::{CAdded, CIntegrand, CNumbers, CRun, CTerm};
 
-/// DOFs per vertex (a), per edge (b) and per cell (c).
+/// DOFs per vertex (a), per edge (b) and per cell (c). The local order is vertices, edges, interior.
 #[derive(Clone, Copy, Debug, PartialEq, Eq)]
 #[repr(C)]
 pub struct Element {
@@ -24,7 +29,8 @@ impl Element {
     }
 }
 
-/// A term: its kind, 0 to 4, alone or with a factor.
+/// A term: its kind alone or with a factor. Kinds: 0 single layer, 1 double layer, 2 adjoint double layer, 3 curl-curl, 4 normal-normal. The hypersingular
+/// operator is kind 3 for Laplace, and kind 3 plus −k² times kind 4 for Helmholtz.
 #[derive(Clone, Copy, Debug, PartialEq)]
 pub enum Term {
     Bare(u32),
@@ -57,7 +63,7 @@ impl Integrand {
     }
 }
 
-/// The mesh: its sizes, and three vertex and three edge numbers a cell.
+/// The mesh: its sizes, and three vertex and three edge numbers a cell. Local edges 0, 1, 2 join local vertices (1,2), (0,2), (0,1).
 #[derive(Clone, Copy, Debug)]
 pub struct Mesh<'a> {
     pub cells: u32,
@@ -87,7 +93,8 @@ pub struct Plan<'a> {
     pub work: &'a [u32],
 }
 
-/// The numbers that planning hands back.
+/// The numbers that planning hands back. `touching` and `distant` count the ordered pairs of cells that share a vertex and that share none; a dense matrix has
+/// `rows` times `columns` numbers.
 #[derive(Clone, Copy, Debug, PartialEq)]
 pub struct Numbers {
     pub cells: u32,
@@ -102,7 +109,7 @@ pub struct Numbers {
     pub integrand: Integrand,
 }
 
-/// A run, which every call hands back.
+/// A run, which every call hands back. Keep the one last handed back, and no other.
 #[derive(Clone, Copy, Debug, PartialEq)]
 pub struct Run {
     pub numbers: Numbers,
@@ -119,7 +126,7 @@ pub struct Record {
     pub trial_cell: u32,
 }
 
-/// What an add of a distant pair is lent beside the plan and the matrix.
+/// What an add of a distant pair is lent beside the plan and the matrix. Each pair may have its own rule.
 #[derive(Clone, Copy, Debug)]
 pub struct Distant<'a> {
     pub test_points: usize,
@@ -133,7 +140,7 @@ pub struct Distant<'a> {
     pub trial_geometry: &'a [f64],
 }
 
-/// What an add of a touching pair, or the entries call, is lent beside the plan and what it writes.
+/// What an add of a touching pair, or the entries call, is lent beside the plan and what it writes. The rule is one for the record's pattern, turned by it.
 #[derive(Clone, Copy, Debug)]
 pub struct Touching<'a> {
     pub points: usize,
@@ -234,7 +241,7 @@ impl fmt::Display for Refusal {
 impl std::error::Error for Refusal {}
 
 /// What a call with that refusal answers. That it is 0 or one of the numbers above is proved for each call: `plan-among` and the like in
-/// `crates/bempp/specs/Numbers.antt`.
+/// `crates/seivalto/specs/Numbers.antt`.
 fn answered<T>(refusal: u32, answer: T) -> Result<T, Refusal> {
     if refusal == 0 {
         return Ok(answer);

@@ -3,7 +3,7 @@
 //!     oracle compare [SEED [COUNT]]   thousands of random jobs, the published Rust beside ours and beside the paper as plain Rust
 //!     oracle large [SEED [COUNT]]     meshes of up to 2,048 cells
 //!     oracle refusals [SEED [COUNT]]  jobs with faults, ours beside the paper as plain Rust
-//!     oracle differences              the smallest inputs on which the Rust and the paper part
+//!     oracle differences              the smallest inputs on which the Rust and the paper part, and what each gives, as `oracle/differences.txt` has it
 //!     oracle batch-0                  one more: the Rust does not come back from batch size 0, and takes all memory that it can get
 //!     oracle record                   a sample of the published Rust's answers, to standard output
 mod compare;

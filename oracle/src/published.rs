@@ -153,8 +153,8 @@ fn points(rule: usize, trial: bool, n: usize) -> Vec<f64> {
 pub(crate) fn lend_rules(numbers: &Numbers) {
     let touching = |(rule, weights): (usize, &Vec<f64>)| TestTrialNumericalQuadratureDefinition {
         weights: weights.clone(),
-        test_points: points(rule, false, weights.len()),
-        trial_points: points(rule, true, weights.len()),
+        test_points: points(rule, false, numbers.points_of(rule, false)),
+        trial_points: points(rule, true, numbers.points_of(rule, true)),
     };
     bempp_quadrature::duffy::lend(numbers.weights.iter().enumerate().map(touching).collect());
     let distant = |weights: &Vec<f64>, trial| NumericalQuadratureDefinition {
@@ -457,18 +457,31 @@ pub fn two_grids(job: &Job, numbers: &Numbers) -> Vec<[u32; 3]> {
     assembler.kernel.kernel.take_asked()
 }
 
-/// How many entries `assemble_singular` keeps, and `assemble_singular_part` has, where a factor makes all of them small.
-pub fn tiny_singular(job: &Job, numbers: &Numbers) -> (usize, usize) {
+/// What `assemble_into_memory` says when it panics, and the rows and columns of the numbers that it has written by then.
+pub fn written_before_panic(job: &Job, numbers: &Numbers) -> (String, Vec<(usize, usize)>) {
     lend_rules(numbers);
     let grid = TriangleGrid::new(&job.mesh, numbers, false);
     let (test, trial) = spaces(job, numbers, &grid);
     let options = options(job, numbers);
-    let term = Term {
-        kind: job.integrand.first.kind,
-        factor: Some(1e-30),
-    };
-    let assembler = assembler(one_term(term), numbers, false, &options);
-    let kept = assembler.assemble_singular(&trial, &test).data.len();
-    let all = door::singular_part(&assembler, &trial, &test).data.len();
-    (kept, all)
+    let assembler = assembler(one_term(job.integrand.first), numbers, false, &options);
+    let rows = test.global_size();
+    let start = numbers.start(rows * trial.global_size());
+    let mut matrix = start.clone();
+    let panic = caught(|| assembler.assemble_into_memory(&trial, &test, &mut matrix));
+    let written = (0..matrix.len())
+        .filter(|k| matrix[*k] != start[*k])
+        .map(|k| (k % rows, k / rows))
+        .collect();
+    (panic.expect_err("it panics"), written)
+}
+
+/// The entries that `assemble_singular` keeps, and those that `assemble_singular_part` has.
+pub fn singular_kept(job: &Job, numbers: &Numbers) -> (Vec<f64>, Vec<f64>) {
+    lend_rules(numbers);
+    let grid = TriangleGrid::new(&job.mesh, numbers, false);
+    let (test, trial) = spaces(job, numbers, &grid);
+    let options = options(job, numbers);
+    let assembler = assembler(one_term(job.integrand.first), numbers, false, &options);
+    let kept = assembler.assemble_singular(&trial, &test).data;
+    (kept, door::singular_part(&assembler, &trial, &test).data)
 }

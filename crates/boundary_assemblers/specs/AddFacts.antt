@@ -9,11 +9,11 @@ use lib.Ieee.{Float}
 use borrow.Author.Tests.{eqb-true, not-true, not-false}
 use Rattle.lists.specs.Bool.{_and_}
 use Rattle.lists.specs.Refusals.{Check, check, refusal, refusal-first, refusal-rest, refusal-fails, refusal-passes, refusal-zero, answers, accepted as pass, _then_}
-use Rattle.grid.specs.Facts.{below-at}
-use Rattle.integrands.specs.Floats.{_!_}
-use Rattle.local_matrix.specs.Adding.{addLocal}
-use Rattle.local_matrix.specs.AddingFacts.{addLocal-ext}
-use Rattle.local_matrix.specs.Entries.{entryAt, AddFits}
+use Rattle.numbers.specs.Ranges.{below-at}
+use Rattle.numbers.specs.Floats.{_!_}
+use Rattle.scatter.specs.Adding.{addLocal}
+use Rattle.scatter.specs.AddingFacts.{addLocal-ext}
+use Rattle.scatter.specs.Entries.{entryAt, AddFits}
 use Rattle.work_records.specs.declared.WorkRecord.{WorkRecord}
 use Rattle.plans.specs.Planning.{unlessRefused}
 use Rattle.runs.specs.Runs.{Run, Plan, Reply, accepted, refused, reply, testDim, trialDim, recordOf, testDofsOf, trialDofsOf, matrixRight, stateChecks, callChecks, advance}

@@ -12,10 +12,10 @@ use borrow.Author.Tests.{eqb-true}
 use Rattle.lists.specs.Bool.{_and_, every, every-at}
 use Rattle.lists.specs.Refusals.{Check, check, refusal, unless}
 use Rattle.function.specs.Elements.{mostDim}
-use Rattle.integrands.specs.Floats.{_!_}
-use Rattle.local_matrix.specs.Adding.{localRows, localColumns, localValues}
-use Rattle.local_matrix.specs.AddingFacts.{localValues-ext}
-use Rattle.local_matrix.specs.Entries.{entryAt}
+use Rattle.numbers.specs.Floats.{_!_}
+use Rattle.scatter.specs.Adding.{localRows, localColumns, localValues}
+use Rattle.scatter.specs.AddingFacts.{localValues-ext}
+use Rattle.scatter.specs.Entries.{entryAt}
 use Rattle.runs.specs.Runs.{Run, Plan, EntryLists, entryLists, written, pairs, testDim, trialDim, testDofsOf, trialDofsOf, rangesRight, placesRight, planRight, pairLeft, recordRight, entriesRight, callChecks, entryPlace}
 use Rattle.boundary_assemblers.specs.RunFacts.{mostPairs, Standing}
 

@@ -10,8 +10,8 @@ use lib.ListN.{length, getD}
 use borrow.Author.Tests.{leb-true, eqb-true, eqb-false, ltb-true, eq-eqb, ne-eqb, not-true}
 use Rattle.lists.specs.Bool.{_and_, every, every-at, every-fails, every-of, Each, and-left, and-right, or-cases, true≢false}
 use Rattle.lists.specs.Refusals.{refusal, refusal-at, answers, accepted, refused as fails, _then_}
-use Rattle.grid.specs.Mesh.{mostCells, allBelow}
-use Rattle.grid.specs.Facts.{within-low, within-high}
+use Rattle.grid.specs.Mesh.{mostCells}
+use Rattle.numbers.specs.Ranges.{allBelow, within-low, within-high}
 use Rattle.function.specs.Elements.{mostDim, dimsRight}
 use Rattle.integrands.specs.Terms.{integrandRight}
 use Rattle.work_records.specs.declared.WorkRecord.{WorkRecord}

@@ -13,23 +13,24 @@ use Rattle.lists.specs.Bool.{_and_, every-at, and-left, and-right}
 use Rattle.lists.specs.Fold.{upto, upto-none, upto-more}
 use Rattle.lists.specs.Places.{in-row, in-rectangle}
 use Rattle.lists.specs.Refusals.{refusal, refusal-at}
-use Rattle.grid.specs.Mesh.{within}
-use Rattle.grid.specs.Facts.{within-high}
+use Rattle.numbers.specs.Ranges.{within, within-high}
 use Rattle.function.specs.Elements.{mostDim}
 use Rattle.table.specs.Rows.{tableRow}
 use Rattle.integrands.specs.declared.Integrand.{Integrand}
 use Rattle.integrands.specs.declared.Geometry.{Geometry}
 use Rattle.integrands.specs.declared.Side.{Side}
 use Rattle.integrands.specs.declared.Term.{Term}
-use Rattle.integrands.specs.Floats.{0·0, _⊕_, _⊗_, _!_}
+use Rattle.numbers.specs.Floats.{0·0, _⊕_, _⊗_, _!_}
 use Rattle.integrands.specs.Terms.{kindOf, kernelWidth, tableRows}
-use Rattle.integrands.specs.ValueFacts.{plainKind, plain-first, coefficient, factored, fromSides, TestSide, TrialSide, term-from}
+use Rattle.integrands.specs.ValueFacts.{plain-first, term-from}
+use Rattle.integrands.specs.Parts.{plainKind, coefficient, factored, fromSides, TestSide, TrialSide}
 use Rattle.integrands.specs.Values.{geometryAt, termValue, pointValue}
 use Rattle.integrands.specs.Columns.{Added, Held, Table, rows-some, width-some, hundred-place, first-reads}
 use Rattle.cell_pair_assemblers.specs.declared.Weight.{Weight}
 use Rattle.cell_pair_assemblers.specs.declared.Weight.the-variants.{Once, Twice}
-use Rattle.cell_pair_assemblers.specs.Lent.{mostTouchingPoints, mostDistantPoints, Touching, Distant, TouchingFits, DistantFits, touchingCount, touchingLengths, touchingChecks, distantCounts, distantLengths, distantChecks}
-use Rattle.cell_pair_assemblers.specs.Entries.{touchingValue, touchingSummand, touchingEntry, distantValue, distantSummand, distantEntry}
+use Rattle.lent_numbers.specs.Lent.{mostPointPairs, Touching, Distant, TouchingFits, DistantFits, touchingCount, touchingLengths, touchingChecks, distantCounts, distantLengths, distantChecks}
+use Rattle.lent_numbers.specs.Sizes.{touching-sizes, distant-sizes, small-pairs}
+use Rattle.lent_numbers.specs.Entries.{touchingValue, touchingSummand, touchingEntry, distantValue, distantSummand, distantEntry}
 
 -- value·w, or value·w·v
 unfoldable pub weighed : Weight → Float → Float
@@ -49,65 +50,6 @@ coefficient-as k test trial e h = h ∙ ap (λ (x : ℕ). coefficient x k test t
 -- the same sums, by another name
 pub added-as : {m n : ℕ} {xs ys : List Float} {u v : ℕ → ℕ → Float} → Added m n xs ys u → ((i j : ℕ) → u i j ≡ v i j) → Added m n xs ys v
 added-as {m} {n} {xs} {ys} h e = record { size = h .size; at = λ i j l b. h .at i j l b ∙ ap (λ (x : Float). xs ! (i + m * j) ⊕ x) (e i j); rest = h .rest }
-
--- the lengths, as equations
-pub record TouchingSizes (f : Integrand) (m n : ℕ) (a : Touching) : Type 0 where
-  pub weights : length (a .weights) ≡ a .points
-  pub testTable : length (a .testTable) ≡ tableRows f * (a .points * m)
-  pub trialTable : length (a .trialTable) ≡ tableRows f * (a .points * n)
-  pub kernel : length (a .kernel) ≡ kernelWidth f * a .points
-  pub testGeometry : length (a .testGeometry) ≡ 10 * a .points
-  pub trialGeometry : length (a .trialGeometry) ≡ 10 * a .points
-
-pub record DistantSizes (f : Integrand) (m n : ℕ) (a : Distant) : Type 0 where
-  pub testWeights : length (a .testWeights) ≡ a .testPoints
-  pub trialWeights : length (a .trialWeights) ≡ a .trialPoints
-  pub testTable : length (a .testTable) ≡ tableRows f * (a .testPoints * m)
-  pub trialTable : length (a .trialTable) ≡ tableRows f * (a .trialPoints * n)
-  pub kernel : length (a .kernel) ≡ kernelWidth f * (a .testPoints * a .trialPoints)
-  pub testGeometry : length (a .testGeometry) ≡ 10 * a .testPoints
-  pub trialGeometry : length (a .trialGeometry) ≡ 10 * a .trialPoints
-
-pub touching-sizes : (f : Integrand) (m n : ℕ) (a : Touching) → touchingLengths f m n a ≡ true → TouchingSizes f m n a
-unfolding touchingLengths
-touching-sizes f m n a e =
-    record {
-      weights = eqb-true _ _ (every-at _ e 0);
-      testTable = eqb-true _ _ (every-at _ e 1);
-      trialTable = eqb-true _ _ (every-at _ e 2);
-      kernel = eqb-true _ _ (every-at _ e 3);
-      testGeometry = eqb-true _ _ (every-at _ e 4);
-      trialGeometry = eqb-true _ _ (every-at _ e 5);
-    }
-
-pub distant-sizes : (f : Integrand) (m n : ℕ) (a : Distant) → distantLengths f m n a ≡ true → DistantSizes f m n a
-unfolding distantLengths
-distant-sizes f m n a e =
-    record {
-      testWeights = eqb-true _ _ (every-at _ e 0);
-      trialWeights = eqb-true _ _ (every-at _ e 1);
-      testTable = eqb-true _ _ (every-at _ e 2);
-      trialTable = eqb-true _ _ (every-at _ e 3);
-      kernel = eqb-true _ _ (every-at _ e 4);
-      testGeometry = eqb-true _ _ (every-at _ e 5);
-      trialGeometry = eqb-true _ _ (every-at _ e 6);
-    }
-
--- ---- no length of check 10 wraps
-
-product-le : (a b A B : ℕ) → a ≤ A → b ≤ B → a * b ≤ A * B
-product-le a b A B ha hb = omega (arith, mul-le-mul-left a hb, mul-le-mul-right B ha)
-
-pub small-table : (f : Integrand) (P m : ℕ) → P ≤ mostTouchingPoints → m ≤ mostDim → (P * m ≤ 20480) × (tableRows f * (P * m) ≤ 61440)
-small-table f P m hp hm =
-    let inner : P * m ≤ 20480 = product-le P m mostTouchingPoints mostDim hp hm in
-    (inner, product-le (tableRows f) (P * m) 3 20480 (rows-some f .1) inner)
-
-pub small-kernel : (f : Integrand) (n : ℕ) → n ≤ 4096 → kernelWidth f * n ≤ 16384
-small-kernel f n h = product-le (kernelWidth f) n 4 4096 (width-some f .1) h
-
-pub small-pairs : (T R : ℕ) → T ≤ mostDistantPoints → R ≤ mostDistantPoints → T * R ≤ 4096
-small-pairs T R ht hr = product-le T R mostDistantPoints mostDistantPoints ht hr
 
 -- ---- what a point reads
 
@@ -159,7 +101,7 @@ distant-trial-geometry {f} {m} {n} {a} h r l =
 
 -- where a pair of points stands in the kernel values
 pub distant-pair : {f : Integrand} {m n : ℕ} {a : Distant} → DistantFits f m n a → (t r : ℕ) → t < a .testPoints → r < a .trialPoints
-    → (a .testPoints * r ≤ 4096) × (t + a .testPoints * r < 4096)
+    → (a .testPoints * r ≤ mostPointPairs) × (t + a .testPoints * r < mostPointPairs)
 distant-pair {f} {m} {n} {a} h t r lt lr =
     let inside = in-rectangle (a .testPoints) (a .trialPoints) t r lt lr in
     let most = small-pairs (a .testPoints) (a .trialPoints) (h .testCount) (h .trialCount) in
@@ -234,22 +176,6 @@ touching-begin f a hm hn = zeros (λ i j. touchingSum f a i j 0) hm hn (touching
 
 pub distant-begin : (f : Integrand) {m n : ℕ} (a : Distant) → m ≤ mostDim → n ≤ mostDim → Held m n (replicate 100 0·0) (λ i j. distantRows f a i j 0)
 distant-begin f a hm hn = zeros (λ i j. distantRows f a i j 0) hm hn (distant-start f a)
-
--- ---- a local matrix may be worked out where the checks pass
-
-pub touching-fits : (f : Integrand) (m n : ℕ) (a : Touching) → m ≤ mostDim → n ≤ mostDim → refusal (touchingChecks f m n a) ≡ 0 → TouchingFits f m n a
-unfolding touchingCount
-touching-fits f m n a hm hn e =
-    record { testFew = hm; trialFew = hn; count = within-high _ _ _ (refusal-at _ e refl 0); lengths = refusal-at _ e refl 1 }
-
-pub few-points : (x y : ℕ) → within 1 mostDistantPoints x and within 1 mostDistantPoints y ≡ true → (x ≤ mostDistantPoints) × (y ≤ mostDistantPoints)
-few-points x y e = (within-high _ _ _ (and-left _ _ e), within-high _ _ _ (and-right _ _ e))
-
-pub distant-fits : (f : Integrand) (m n : ℕ) (a : Distant) → m ≤ mostDim → n ≤ mostDim → refusal (distantChecks f m n a) ≡ 0 → DistantFits f m n a
-unfolding distantCounts
-distant-fits f m n a hm hn e =
-    let few = few-points _ _ (refusal-at _ e refl 0) in
-    record { testFew = hm; trialFew = hn; testCount = few .0; trialCount = few .1; lengths = refusal-at _ e refl 1 }
 
 -- what one term other than curl-curl reads of the kernel values
 pub plain-reads : (f : Integrand) (kind at : ℕ) (kernel : List Float) → kind ≡ plainKind f → (kind ≡ 3 → ⊥) → at + kernelWidth f ≤ length kernel

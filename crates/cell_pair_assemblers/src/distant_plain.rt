@@ -10,14 +10,14 @@ ghost use Prim.Native.Nat.{ℕ, _+_, _*_, _<_, _≤_};
 ghost use lib.ListN.{length};
 ghost use lib.Ieee.{Float, nan};
 ghost use Rattle.lists.specs.Maps.{Mapped};
-ghost use Rattle.integrands.specs.Floats.{_⊕_, _⊗_, _!_};
+ghost use Rattle.numbers.specs.Floats.{_⊕_, _⊗_, _!_};
 ghost use Rattle.integrands.specs.Terms.{kernelWidth, tableRows};
 ghost use Rattle.integrands.specs.Values.{geometryAt};
 ghost use Rattle.table.specs.Rows.{tableRow};
 ghost use Rattle.integrands.specs.Columns.{Table, Held, Added};
-ghost use Rattle.integrands.specs.ValueFacts.{plainKind, factored};
-ghost use Rattle.cell_pair_assemblers.specs.Lent.{distant, DistantFits};
-ghost use Rattle.cell_pair_assemblers.specs.Entries.{DistantEntries};
+ghost use Rattle.integrands.specs.Parts.{plainKind, factored};
+ghost use Rattle.lent_numbers.specs.Lent.{distant, DistantFits};
+ghost use Rattle.cell_pair_assemblers.specs.Matrices.{DistantEntries};
 ghost use Rattle.cell_pair_assemblers.specs.Facts.{distantRows, distantSum};
 
 // One column: entry + c·t·r·w·v, with the term's factor before it.

@@ -9,13 +9,13 @@ ghost use Prim.Native.Nat.{ℕ, _+_, _*_, _<_, _≤_};
 ghost use lib.ListN.{length};
 ghost use lib.Ieee.{Float, nan};
 ghost use Rattle.lists.specs.Maps.{Mapped};
-ghost use Rattle.integrands.specs.Floats.{_⊕_, _⊗_, _!_};
+ghost use Rattle.numbers.specs.Floats.{_⊕_, _⊗_, _!_};
 ghost use Rattle.integrands.specs.Terms.{kernelWidth, tableRows};
 ghost use Rattle.table.specs.Rows.{tableRow};
 ghost use Rattle.integrands.specs.Columns.{Table, Held, Added};
-ghost use Rattle.integrands.specs.ValueFacts.{plainKind, factored};
-ghost use Rattle.cell_pair_assemblers.specs.Lent.{touching, TouchingFits};
-ghost use Rattle.cell_pair_assemblers.specs.Entries.{TouchingEntries};
+ghost use Rattle.integrands.specs.Parts.{plainKind, factored};
+ghost use Rattle.lent_numbers.specs.Lent.{touching, TouchingFits};
+ghost use Rattle.cell_pair_assemblers.specs.Matrices.{TouchingEntries};
 ghost use Rattle.cell_pair_assemblers.specs.Facts.{touchingSum};
 
 // One column: entry + c·t·r·w, with the term's factor before it.

@@ -45,7 +45,7 @@ pub M5-records-holds : Holds M5-records
 unfolding opened-cell-pairs
 M5-records-holds = refl
 
--- M7: a = 1, batch 1. Turned, a pattern is patternCount the list; twice, four records of 27
+-- M7: a = 1, batch 1. Turned, a pattern is outside the list; twice, four records of 27
 abbrev pub M7-pattern : Example
 M7-pattern = example (patternsRight 2 (M7-turned .cellVertices)) false
 
@@ -59,3 +59,14 @@ M7-records = example (records M7-twice 1) (rec 27 0 0 ∷ rec 27 0 1 ∷ rec 27 
 pub M7-records-holds : Holds M7-records
 unfolding opened-cell-pairs
 M7-records-holds = refl
+
+-- Beside the paper's: cells (0,1,2), (2,1,3) run along their edge in opposite directions, which is the plus 1; cells (0,1,2), (3,2,4) meet at places 2 and 1
+abbrev pub patterns : Example
+patterns =
+    let opposite : List ℕ = 0 ∷ 1 ∷ 2 ∷ 2 ∷ 1 ∷ 3 ∷ [] in
+    let corner : List ℕ = 0 ∷ 1 ∷ 2 ∷ 3 ∷ 2 ∷ 4 ∷ [] in
+    example (pattern opposite 0 1 ∷ pattern opposite 1 0 ∷ pattern corner 0 1 ∷ pattern corner 1 0 ∷ []) (14 ∷ 22 ∷ 7 ∷ 5 ∷ [])
+
+pub patterns-hold : Holds patterns
+unfolding opened-cell-pairs
+patterns-hold = refl

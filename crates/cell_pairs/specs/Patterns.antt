@@ -6,7 +6,7 @@ use lib.Dec.{eqb, ltb}
 use Rattle.lists.specs.Bool.{_and_, _or_}
 use Rattle.lists.specs.Bounded.{all, least}
 use Rattle.lists.specs.Range.{range, when}
-use Rattle.grid.specs.Cells.{entity, has, share, firstEnd, secondEnd, sameTwo}
+use Rattle.grid.specs.Shape.{entity, has, share, firstEnd, secondEnd, sameTwo}
 use Rattle.work_records.specs.Records.{patternCount}
 
 -- a shared vertex, by its places in the two cells

@@ -7,7 +7,7 @@ use lib.Dec.{eqb}
 use Rattle.lists.specs.Bool.{_and_}
 use Rattle.lists.specs.Range.{range, when, filter, batch}
 use Rattle.lists.specs.Total.{total, count}
-use Rattle.grid.specs.Cells.{share}
+use Rattle.grid.specs.Shape.{share}
 use Rattle.grid.specs.Mesh.{Mesh}
 use Rattle.function.specs.Colours.{colourCount}
 use Rattle.work_records.specs.declared.WorkRecord.{WorkRecord}
@@ -17,6 +17,10 @@ use Rattle.cell_pairs.specs.Patterns.{pattern, smallestShared}
 -- the cells of colour c, rising, of C cells
 unfoldable pub coloured : ℕ → List ℕ → ℕ → List ℕ
 coloured C cs c = filter (λ i. eqb (getD cs i 0) c) (range C)
+
+-- a batch has at most 65,535 cells
+abbrev pub mostBatch : ℕ
+mostBatch = 65535
 
 -- the numbers of the batches that cut the cells into B: the last may be shorter
 abbrev pub batches : ℕ → List ℕ → List ℕ

@@ -14,7 +14,7 @@ use Rattle.lists.specs.Bool.{_and_, _or_, true≢false, cases, every, every-at,
 use Rattle.lists.specs.Bounded.{some, least, least-is, some-at}
 use Rattle.lists.specs.Range.{range, when}
 use Rattle.grid.specs.Facts.{has-at, share-turned}
-use Rattle.grid.specs.Cells.{entity, has, share, secondEnd, sameTwo}
+use Rattle.grid.specs.Shape.{entity, has, share, secondEnd, sameTwo}
 use Rattle.grid.specs.Mesh.{distinct}
 use Rattle.work_records.specs.Records.{patternCount}
 use Rattle.cell_pairs.specs.Patterns.{Match, matches, edgeOf, patternOf, pattern, smallestShared}

@@ -1,6 +1,6 @@
 // Touching pairs (`get_pairs_if_smallest`): the pattern of two cells, their smallest shared vertex, and check 7.
 use grid::has_entity;
-use grid::wide;
+use numbers::wide;
 use work_records::NO_PATTERN;
 ghost use mathlib.Core.Path.{_≡_};
 ghost use mathlib.Core.Bool.{true};

@@ -10,7 +10,7 @@ use lib.ListN.{getD}
 use Rattle.lists.specs.Bool.{_or_}
 use Rattle.lists.specs.Bounded.{some, lt-or-le}
 use Rattle.lists.specs.Range.{flatMap-below}
-use Rattle.grid.specs.Cells.{has, share}
+use Rattle.grid.specs.Shape.{has, share}
 use Rattle.grid.specs.Mesh.{Mesh}
 use Rattle.function.specs.Colours.{colourCount}
 use Rattle.work_records.specs.Records.{rec, distantPattern}

@@ -2,7 +2,7 @@
 // contract of one form, `Wrote ..`: the lent list is as it was with these records written from a place
 // on, and the result is the place after them.
 use cells_by_key::part_of;
-use grid::wide;
+use numbers::wide;
 use work_records::DISTANT;
 use work_records::WorkRecord;
 use work_records::put_record;
@@ -12,7 +12,7 @@ ghost use lib.ListN.{length};
 ghost use Rattle.lists.specs.Range.{batch};
 ghost use Rattle.lists.specs.Writes.{Wrote, Room};
 ghost use Rattle.work_records.specs.Laws.{records};
-ghost use Rattle.cell_pairs.specs.WorkList.{distantPair, distantBatch, distantColours};
+ghost use Rattle.cell_pairs.specs.WorkList.{mostBatch, distantPair, distantBatch, distantColours};
 ghost use Rattle.cells_by_key.specs.Groups.{Cells, Cut};
 ghost use Rattle.distant_pairs.specs.Distant.{Corners, hasOneOf, distantRow, distantTrials, distantRest, distantParts};
 
@@ -123,7 +123,7 @@ fn write_trials(
     work: &mut [u32],
     at: usize,
 ) -> usize
-    requires { ⌜ (0 < batch) × (batch < 65536) ⌝ }
+    requires { ⌜ (0 < batch) × (batch ≤ mostBatch) ⌝ }
     requires { ⌜ Cells (now vertices) (now tests) ⌝ }
     requires { ⌜ Cells (now vertices) (now trials) ⌝ }
     requires { ⌜ Room records (now work) at (distantTrials (now vertices) batch (now tests) (now trials)) ⌝ }
@@ -148,7 +148,7 @@ fn write_colours(
     work: &mut [u32],
     at: usize,
 ) -> usize
-    requires { ⌜ (0 < batch) × (batch < 65536) ⌝ }
+    requires { ⌜ (0 < batch) × (batch ≤ mostBatch) ⌝ }
     requires { ⌜ Cells (now vertices) (now tests) ⌝ }
     requires { ⌜ Cells (now vertices) (now trials) ⌝ }
     requires { ⌜ Room records (now work) at (distantColours (now vertices) batch (now tests) (now trials)) ⌝ }
@@ -181,7 +181,7 @@ fn write_rest(
     work: &mut [u32],
     at: usize,
 ) -> usize
-    requires { ⌜ (0 < batch) × (batch < 65536) ⌝ }
+    requires { ⌜ (0 < batch) × (batch ≤ mostBatch) ⌝ }
     requires { ⌜ Cells (now vertices) (now tests) ⌝ }
     requires { ⌜ Cut (now vertices) (now order) (now ends) ⌝ }
     requires { ⌜ Room records (now work) at (distantRest (now vertices) batch (now tests) (now order) (now ends)) ⌝ }
@@ -207,7 +207,7 @@ pub fn write_distant(
     trial_ends: &[usize],
     work: &mut [u32],
 ) -> usize
-    requires { ⌜ (0 < batch) × (batch < 65536) ⌝ }
+    requires { ⌜ (0 < batch) × (batch ≤ mostBatch) ⌝ }
     requires { ⌜ Cut (now vertices) (now «test_order») (now «test_ends») ⌝ }
     requires { ⌜ Cut (now vertices) (now «trial_order») (now «trial_ends») ⌝ }
     requires { ⌜ Room records (now work) 0

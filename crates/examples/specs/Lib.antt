@@ -2,13 +2,14 @@
 -- what the paper says, in `specs/Examples.antt` of the crate of its layer, and antt computes it there. Assumes nothing.
 use mathlib.Core.List.{List, [], _∷_}
 use Rattle.lists.specs.Examples.{Example, Agree, no-more, _and-also_}
-use Rattle.function.specs.Examples.{M1-colours, M1-dofs, M2-dofs, M3-colours, M2-owners, M2-count, M1-colours-holds, M1-dofs-holds, M2-dofs-holds, M3-colours-holds, M2-owners-holds, M2-count-holds}
-use Rattle.integrands.specs.Examples.{F3, F4, F3-holds, F4-holds}
-use Rattle.cell_pair_assemblers.specs.Examples.{F1, F2, F1-rounded, F2-rounded, F1-holds, F2-holds, F1-rounded-holds, F2-rounded-holds}
-use Rattle.cell_pairs.specs.Examples.{M4-records, M5-records, M7-records, M4-records-holds, M5-records-holds, M7-records-holds}
-use Rattle.plans.specs.Examples.{M-planned, M-sizes, M6-distant, M6-touching, M6-sum, M7-refused, M7-planned, M8-batch, M8-cells, M-planned-holds, M-sizes-holds, M6-distant-holds, M6-touching-holds, M6-sum-holds, M7-refused-holds, M7-planned-holds, M8-batch-holds, M8-cells-holds}
+use Rattle.function.specs.Examples.{M1-colours, M1-dofs, M2-dofs, M3-colours, M2-owners, M2-count, M1-colours-holds, M1-dofs-holds, M2-dofs-holds, M3-colours-holds, M2-owners-holds, M2-count-holds, by-edges, two-an-edge, two-owners, by-edges-holds, two-an-edge-holds, two-owners-holds}
+use Rattle.integrands.specs.Examples.{F3, F4, F3-holds, F4-holds, double, normals, factor, two, one, double-holds, normals-hold, factor-holds, two-holds, one-holds}
+use Rattle.lent_numbers.specs.Examples.{F1, F2, F1-rounded, F2-rounded, F1-holds, F2-holds, F1-rounded-holds, F2-rounded-holds, two-points, four-pairs, two-points-hold, four-pairs-hold}
+use Rattle.scatter.specs.Examples.{added, rows-columns, values, added-holds, rows-columns-hold, values-hold}
+use Rattle.cell_pairs.specs.Examples.{M4-records, M5-records, M7-records, M4-records-holds, M5-records-holds, M7-records-holds, patterns, patterns-hold}
+use Rattle.plans.specs.Examples.{M-planned, M-sizes, M6-distant, M6-touching, M6-sum, M7-refused, M7-planned, M7-work, M7-work-holds, M8-batch, M8-cells, M-planned-holds, M-sizes-holds, M6-distant-holds, M6-touching-holds, M6-sum-holds, M7-refused-holds, M7-planned-holds, M8-batch-holds, M8-cells-holds}
 use Rattle.job.specs.Examples.{M4-read, M4-vertices, M4-edges, short-refused, short-vertices, large-limited, large-free, M4-read-holds, M4-vertices-holds, M4-edges-holds, short-refused-holds, short-vertices-holds, large-limited-holds, large-free-holds}
-use Rattle.job_text.specs.Examples.{M4, M5, M7-turned-text, M7-twice-text, M8-batch-text, M4-short, M4-longer, job-large, M4-holds, M5-holds, M7-turned-text-holds, M7-twice-text-holds, M8-batch-text-holds, M4-short-holds, M4-longer-holds, job-large-holds}
+use Rattle.worklist_text.specs.Examples.{M4, M5, M7-turned-text, M7-twice-text, M8-batch-text, M4-short, M4-longer, job-large, M4-holds, M5-holds, M7-turned-text-holds, M7-twice-text-holds, M8-batch-text-holds, M4-short-holds, M4-longer-holds, job-large-holds}
 
 -- the paper's
 abbrev pub examples : List Example
@@ -20,7 +21,7 @@ examples =
     -- M6: N, S, and their sum, of what planning hands back
     ∷ M6-distant ∷ M6-touching ∷ M6-sum
     -- M7: turned, planning answers 7; twice, it accepts, with four records of 27
-    ∷ M7-refused ∷ M7-planned ∷ M7-records
+    ∷ M7-refused ∷ M7-planned ∷ M7-work
     -- M8: batch 0; C = 2,049
     ∷ M8-batch ∷ M8-cells
     ∷ F1 ∷ F2 ∷ F3 ∷ F4
@@ -39,7 +40,7 @@ theorem =
     and-also M6-sum-holds
     and-also M7-refused-holds
     and-also M7-planned-holds
-    and-also M7-records-holds
+    and-also M7-work-holds
     and-also M8-batch-holds
     and-also M8-cells-holds
     and-also F1-holds
@@ -48,12 +49,15 @@ theorem =
     and-also F4-holds
     and-also no-more
 
--- and some beside them: M4 and M5 as records, M accepted, M7 and M8 as text, jobs cut short, longer and too large, what reading a job answers and writes,
--- owner records, a DOF count, and sums in which rounding shows
+-- and some beside them, for what these leave untouched: M4, M5 and M7 as records, M accepted, M7 and M8 as text, jobs cut short, longer and too large, what
+-- reading a job answers and writes; owner records, a DOF count, colours by edges, two DOFs on an entity; the plus 1 of a pattern and its i and j; kinds 1 and 4,
+-- a factor, two terms; sums in which rounding shows, and ones of several points and basis functions; where local entries go, and in which order
 abbrev pub more : List Example
 more =
     M4-records ∷ M5-records ∷ M-planned ∷ M-sizes ∷ M7-turned-text ∷ M7-twice-text ∷ M8-batch-text
-    ∷ M4-short ∷ M4-longer ∷ job-large ∷ M4-read ∷ M4-vertices ∷ M4-edges ∷ short-refused ∷ short-vertices ∷ large-limited ∷ large-free ∷ M2-owners ∷ M2-count ∷ F1-rounded ∷ F2-rounded ∷ []
+    ∷ M4-short ∷ M4-longer ∷ job-large ∷ M4-read ∷ M4-vertices ∷ M4-edges ∷ short-refused ∷ short-vertices ∷ large-limited ∷ large-free ∷ M2-owners ∷ M2-count
+    ∷ F1-rounded ∷ F2-rounded ∷ M7-records ∷ by-edges ∷ two-an-edge ∷ two-owners ∷ patterns ∷ double ∷ normals ∷ factor ∷ two ∷ one ∷ two-points ∷ four-pairs
+    ∷ added ∷ rows-columns ∷ values ∷ []
 
 pub more-hold : Agree more
 more-hold =
@@ -78,4 +82,19 @@ more-hold =
     and-also M2-count-holds
     and-also F1-rounded-holds
     and-also F2-rounded-holds
+    and-also M7-records-holds
+    and-also by-edges-holds
+    and-also two-an-edge-holds
+    and-also two-owners-holds
+    and-also patterns-hold
+    and-also double-holds
+    and-also normals-hold
+    and-also factor-holds
+    and-also two-holds
+    and-also one-holds
+    and-also two-points-hold
+    and-also four-pairs-hold
+    and-also added-holds
+    and-also rows-columns-hold
+    and-also values-hold
     and-also no-more

@@ -8,7 +8,7 @@ use lib.ListN.{length, getD}
 use lib.Dec.{eqb, ltb}
 use Rattle.lists.specs.Bool.{_and_}
 use Rattle.lists.specs.Bounded.{some, least}
-use Rattle.grid.specs.Cells.{share}
+use Rattle.grid.specs.Shape.{share}
 use Rattle.grid.specs.Mesh.{mostCells}
 use Rattle.function.specs.Numbering.{Space}
 

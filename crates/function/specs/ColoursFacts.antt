@@ -14,7 +14,7 @@ use borrow.Author.Tests.{eq-eqb, ne-eqb, not-true, lt-ltb, le-ltb}
 use Rattle.lists.specs.Bool.{_and_, _or_, true≢false, and-both, and-no-left, and-no-right, or-right}
 use Rattle.lists.specs.Bounded.{some, least, some-not, some-none, some-ext, some-more, some-start, least-is, least-le, least-holds, least-ext, eq-or-ne}
 use Rattle.lists.specs.Stores.{sets-more, sets-all, getD-front}
-use Rattle.grid.specs.Cells.{has, share}
+use Rattle.grid.specs.Shape.{has, share}
 use Rattle.grid.specs.Mesh.{mostCells}
 use Rattle.function.specs.Numbering.{Space}
 use Rattle.function.specs.Colours.{taken, smallest, coloursTo, sharing, colourList, colourCount}

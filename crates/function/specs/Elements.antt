@@ -2,7 +2,7 @@
 use Prim.Native.Nat.{ℕ, _+_, _*_}
 use mathlib.Core.Bool.{Bool}
 use Rattle.lists.specs.Bool.{_and_}
-use Rattle.grid.specs.Mesh.{within}
+use Rattle.numbers.specs.Ranges.{within}
 use Rattle.function.specs.declared.Element.{Element}
 
 -- a DOFs per vertex, b per edge, c per cell: dim = 3a + 3b + c

@@ -68,3 +68,32 @@ M2-count = example (dofCount (onM (element 1 1 0)) 3) 15
 pub M2-count-holds : Holds M2-count
 unfolding opened-function
 M2-count-holds = refl
+
+-- Two cells that meet at one vertex: (0,1,2), (2,3,4), edges (0,1,2), (3,4,5). Coloured by edges they have one colour, by vertices two
+abbrev meeting : Element → Space
+meeting e = record { cellVertices = 0 ∷ 1 ∷ 2 ∷ 2 ∷ 3 ∷ 4 ∷ []; cellEdges = 0 ∷ 1 ∷ 2 ∷ 3 ∷ 4 ∷ 5 ∷ []; element = e }
+
+abbrev pub by-edges : Example
+by-edges = example (colourList (meeting (element 0 1 0)) 2 ∷ colourList (meeting (element 1 0 0)) 2 ∷ []) ((0 ∷ 0 ∷ []) ∷ (0 ∷ 1 ∷ []) ∷ [])
+
+pub by-edges-holds : Holds by-edges
+unfolding opened-function
+by-edges-holds = refl
+
+-- two DOFs an edge and one inside, on the first two cells of M: the shared edge 0 keeps its two
+abbrev pub two-an-edge : Example
+two-an-edge = example (dofList (onM (element 0 2 1)) 2) (0 ∷ 1 ∷ 2 ∷ 3 ∷ 4 ∷ 5 ∷ 6 ∷ 7 ∷ 8 ∷ 0 ∷ 1 ∷ 9 ∷ 10 ∷ 11 ∷ [])
+
+pub two-an-edge-holds : Holds two-an-edge
+unfolding opened-function
+two-an-edge-holds = refl
+
+-- their owner records: dimension, entity, place on it
+abbrev pub two-owners : Example
+two-owners =
+    example (ownerList (onM (element 0 2 1)) 2)
+    (1 ∷ 0 ∷ 0 ∷ 1 ∷ 0 ∷ 1 ∷ 1 ∷ 1 ∷ 0 ∷ 1 ∷ 1 ∷ 1 ∷ 1 ∷ 2 ∷ 0 ∷ 1 ∷ 2 ∷ 1 ∷ 2 ∷ 0 ∷ 0 ∷ 1 ∷ 3 ∷ 0 ∷ 1 ∷ 3 ∷ 1 ∷ 1 ∷ 4 ∷ 0 ∷ 1 ∷ 4 ∷ 1 ∷ 2 ∷ 1 ∷ 0 ∷ [])
+
+pub two-owners-holds : Holds two-owners
+unfolding opened-function
+two-owners-holds = refl

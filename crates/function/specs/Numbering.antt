@@ -9,7 +9,7 @@ use mathlib.Core.List.{List, [], _∷_, _++_}
 use lib.Dec.{ltb, eqb}
 use Rattle.lists.specs.Bool.{_and_}
 use Rattle.lists.specs.Bounded.{least}
-use Rattle.grid.specs.Cells.{entity}
+use Rattle.grid.specs.Shape.{entity}
 use Rattle.function.specs.declared.Element.{Element}
 
 -- A function space: the vertex list and the edge list of a mesh, and an element on it

@@ -14,7 +14,7 @@ use lib.Dec.{ltb, eqb}
 use borrow.Author.Tests.{ltb-true, eqb-false, eq-eqb, ne-eqb}
 use Rattle.lists.specs.Bool.{true≢false, cases}
 use Rattle.lists.specs.Stores.{sets-append, sets-more, sets-all, sets-front}
-use Rattle.grid.specs.Cells.{entity}
+use Rattle.grid.specs.Shape.{entity}
 use Rattle.grid.specs.Mesh.{mostCells, mostVertices, mostEdges}
 use Rattle.function.specs.Elements.{mostDim, dim}
 use Rattle.function.specs.declared.Element.{Element}

@@ -4,14 +4,14 @@ ghost use Prim.Native.Nat.{ℕ, _+_, _*_, _<_, _≤_, max};
 ghost use lib.ListN.{length, getD};
 ghost use lib.Dec.{eqb};
 ghost use Rattle.lists.specs.Bounded.{least};
-ghost use Rattle.grid.specs.Cells.{share};
+ghost use Rattle.grid.specs.Shape.{share};
 ghost use Rattle.grid.specs.Mesh.{mostCells};
 ghost use Rattle.function.specs.Colours.{smallest, coloursTo, colourList, colourCount, Colourable};
 ghost use Rattle.function.specs.ColoursFacts.{Earlier, Marked, Listed};
 use super::Element;
 use grid::MOST_CELLS;
 use grid::neighbours;
-use grid::wide;
+use numbers::wide;
 
 // For each colour, 1 where a cell before cell i that shares an entity with it has that colour, else 0.
 fn used_colours(list: &[u32], colours: &[u32], i: usize) -> [u8; MOST_CELLS]

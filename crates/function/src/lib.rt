@@ -1,5 +1,5 @@
 // Elements on a mesh: DOF numbers and colours.
-use grid::wide;
+use numbers::wide;
 ghost use mathlib.Core.Path.{_≡_};
 ghost use Rattle.function.specs.Elements.{dim, dimsRight};
 

@@ -12,7 +12,7 @@ use super::Element;
 use grid::MOST_CELLS;
 use grid::MOST_EDGES;
 use grid::MOST_VERTICES;
-use grid::wide;
+use numbers::wide;
 
 // What visit k meets: the entity's dimension, its number, and how many DOFs are on it.
 fn dimension_of(k: usize) -> u32

@@ -12,9 +12,10 @@ use lib.Dec.{ltb, eqb}
 use borrow.Author.Tests.{lt-ltb, le-ltb, eqb-true, eqb-false, eq-eqb, not-true, not-false}
 use Rattle.lists.specs.Bool.{_and_, _or_, iff, true≢false, same-test, every, every-at, and-left, and-right, and-both, or-cases, or-left, or-right, or-no-left, or-no-right}
 use Rattle.lists.specs.Bounded.{all, all-of, all-fails, some, some-not, some-which, lt-or-le, eq-or-ne}
-use Rattle.grid.specs.Cells.{firstEnd, secondEnd, sameTwo}
-use Rattle.grid.specs.Mesh.{mostVertices, mostEdges, within, allBelow, firstVertex, secondVertex, sameVertices, placesAgree, edgeRule}
-use Rattle.grid.specs.Facts.{within-high, below-at, same-two-cases, first-below, second-below}
+use Rattle.grid.specs.Shape.{firstEnd, secondEnd, sameTwo}
+use Rattle.grid.specs.Mesh.{mostVertices, mostEdges, firstVertex, secondVertex, sameVertices, placesAgree, edgeRule}
+use Rattle.numbers.specs.Ranges.{within, allBelow, within-high, below-at}
+use Rattle.grid.specs.Facts.{same-two-cases, first-below, second-below}
 
 -- the key of two vertex numbers, in either order
 unfoldable pub pairKey : ℕ → ℕ → ℕ

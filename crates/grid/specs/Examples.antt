@@ -2,8 +2,9 @@
 use mathlib.Core.List.{[], _∷_}
 use lib.ListN.{replicate}
 use Rattle.lists.specs.Examples.{opened-lists}
-use Rattle.grid.specs.Cells.{has, share, sameTwo}
-use Rattle.grid.specs.Mesh.{Mesh, allBelow, distinct, sameVertices, placesAgree, edgeRule, cellsRight, verticesRight, edgesRight}
+use Rattle.grid.specs.Shape.{has, share, sameTwo}
+use Rattle.grid.specs.Mesh.{Mesh, distinct, sameVertices, placesAgree, edgeRule, cellsRight, verticesRight, edgesRight}
+use Rattle.numbers.specs.Ranges.{allBelow}
 
 -- M: C = 3, V = 7, E = 8, cells (0,1,2), (1,3,2), (4,5,6), edges (0,1,2), (3,0,4), (5,6,7)
 abbrev pub M : Mesh

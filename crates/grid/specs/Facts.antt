@@ -12,20 +12,11 @@ use borrow.Author.Tests.{leb-true, ltb-true, lt-ltb, eqb-true, eqb-false, eq-eqb
 use Rattle.lists.specs.Bool.{_and_, _or_, iff, iff-sides, every, every-at, and-left, and-right, or-cases, or-no-left, or-no-right}
 use Rattle.lists.specs.Bounded.{all-at, all-of, some-at, some-which, lt-or-le}
 use Rattle.lists.specs.Refusals.{refusal, refusal-at}
-use Rattle.grid.specs.Cells.{entity, has, share, firstEnd, secondEnd, sameTwo}
-use Rattle.grid.specs.Mesh.{mostCells, mostVertices, mostEdges, Mesh, within, allBelow, distinct, sameVertices, placesAgree, edgeRule, cellsRight, verticesRight, edgesRight, meshChecks}
+use Rattle.grid.specs.Shape.{entity, has, share, firstEnd, secondEnd, sameTwo}
+use Rattle.grid.specs.Mesh.{mostCells, mostVertices, mostEdges, Mesh, distinct, sameVertices, placesAgree, edgeRule, cellsRight, verticesRight, edgesRight, meshChecks}
+use Rattle.numbers.specs.Ranges.{within, within-low, within-high, allBelow, below-at}
 
 -- ---- what a check that passes says
-
-pub within-low : (low high x : ℕ) → within low high x ≡ true → low ≤ x
-within-low low high x e = leb-true low x (and-left (leb low x) (leb x high) e)
-
-pub within-high : (low high x : ℕ) → within low high x ≡ true → x ≤ high
-within-high low high x e = leb-true x high (and-right (leb low x) (leb x high) e)
-
-pub below-at : (l : List ℕ) (bound : ℕ) → allBelow l bound ≡ true → (k : ℕ) → k < length l → getD l k 0 < bound
-unfolding allBelow
-below-at l bound e k h = ltb-true (getD l k 0) bound (all-at (length l) (λ k. ltb (getD l k 0) bound) e k h)
 
 -- what check 2 says of the vertex numbers, whatever V is
 pub below-most : (l : List ℕ) (v : ℕ) (d : Bool) → every (within 3 mostVertices v ∷ allBelow l v ∷ d ∷ []) ≡ true → allBelow l mostVertices ≡ true

@@ -1,6 +1,6 @@
--- Three entities a cell (`Cells`), the mesh with checks 1 to 3 (`Mesh`), what holds of a mesh that the checks pass, and
+-- The shape of a cell (`Shape`), the mesh with checks 1 to 3 (`Mesh`), what holds of a mesh that the checks pass, and
 -- of cells that share an entity (`Facts`), the edge rule by keys (`EdgeRule`).
-pub mod Cells
+pub mod Shape
 pub mod Mesh
 pub mod Facts
 pub mod EdgeRule

@@ -7,7 +7,8 @@ use lib.Dec.{leb, ltb, eqb}
 use Rattle.lists.specs.Bool.{_and_, _or_, every, iff}
 use Rattle.lists.specs.Bounded.{all}
 use Rattle.lists.specs.Refusals.{Check, check}
-use Rattle.grid.specs.Cells.{entity, firstEnd, secondEnd, sameTwo}
+use Rattle.numbers.specs.Ranges.{within, allBelow}
+use Rattle.grid.specs.Shape.{entity, firstEnd, secondEnd, sameTwo}
 
 -- C is 1 to 2,048, V is 3 to 4,096, E is 3 to 6,144
 abbrev pub mostCells : ℕ
@@ -26,14 +27,6 @@ pub record Mesh : Type 0 where
   pub edges : ℕ
   pub cellVertices : List ℕ
   pub cellEdges : List ℕ
-
--- low ≤ x ≤ high
-abbrev pub within : ℕ → ℕ → ℕ → Bool
-within low high x = leb low x and leb x high
-
--- each number of the list is below the bound
-unfoldable pub allBelow : List ℕ → ℕ → Bool
-allBelow l bound = all (length l) (λ k. ltb (getD l k 0) bound)
 
 -- no vertex stands twice in cell i
 unfoldable pub distinct : List ℕ → ℕ → Bool

@@ -3,7 +3,8 @@ use crate::MOST_CELLS;
 use crate::MOST_EDGES;
 use crate::MOST_VERTICES;
 use crate::edge_rule::keeps_edge_rule;
-use crate::is_within;
+use numbers::all_below;
+use numbers::is_within;
 ghost use mathlib.Core.Path.{_≡_};
 ghost use Prim.Native.Nat.{_+_, _*_, _≤_};
 ghost use mathlib.Core.Bool.{true};
@@ -13,22 +14,8 @@ ghost use lib.Dec.{eqb};
 ghost use Rattle.lists.specs.Bool.{_and_, every};
 ghost use Rattle.lists.specs.Bounded.{all};
 ghost use Rattle.lists.specs.Refusals.{refusal};
-ghost use Rattle.grid.specs.Mesh.{mostCells, mostVertices, mostEdges, within, allBelow, distinct, edgeRule, meshChecks};
-
-// Whether each number of the list is below the bound.
-pub fn all_below(list: &[u32], bound: u32) -> bool
-    ensures { λ r. ⌜ r ≡ allBelow (now (list .entry)) bound ⌝ }
-{
-    let mut k = 0;
-    while k < list.len() {
-        if list[k] < bound {
-            k += 1;
-        } else {
-            return false;
-        }
-    }
-    true
-}
+ghost use Rattle.grid.specs.Mesh.{mostCells, mostVertices, mostEdges, distinct, edgeRule, meshChecks};
+ghost use Rattle.numbers.specs.Ranges.{within, allBelow};
 
 // Whether no vertex stands twice in the cell.
 fn is_distinct(vertices: &[u32], cell: usize) -> bool

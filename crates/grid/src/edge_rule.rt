@@ -1,13 +1,15 @@
 // The edge rule: two edge places have the same number exactly when they join the same two vertices.
 use crate::MOST_EDGES;
 use crate::MOST_VERTICES;
-use crate::wide;
+use crate::shape::first_end;
+use crate::shape::second_end;
+use numbers::wide;
 ghost use mathlib.Core.Path.{_≡_};
 ghost use Prim.Native.Nat.{_+_, _*_, _/_, _<_, _≤_};
 ghost use mathlib.Core.Bool.{true};
 ghost use lib.ListN.{length};
-ghost use Rattle.grid.specs.Cells.{firstEnd, secondEnd};
-ghost use Rattle.grid.specs.Mesh.{mostVertices, mostEdges, allBelow, edgeRule};
+ghost use Rattle.grid.specs.Mesh.{mostVertices, mostEdges, edgeRule};
+ghost use Rattle.numbers.specs.Ranges.{allBelow};
 ghost use Rattle.grid.specs.EdgeRule.{pairKey, edgeKey, hasKey, mayHave, Numbered};
 
 // The key of two vertices is the smaller times this, plus the other.
@@ -26,20 +28,6 @@ fn pair_key(a: u32, b: u32) -> u32
     } else {
         KEY_STEP * b + a
     }
-}
-
-// The first of the two local vertices that a local edge joins.
-fn first_end(edge: usize) -> usize
-    ensures { λ r. ⌜ (r ≡ firstEnd edge) × (r < 3) ⌝ }
-{
-    if edge == 0 { 1 } else { 0 }
-}
-
-// The second of the two.
-fn second_end(edge: usize) -> usize
-    ensures { λ r. ⌜ (r ≡ secondEnd edge) × (r < 3) ⌝ }
-{
-    if edge == 2 { 1 } else { 2 }
 }
 
 // The key of the two vertices that an edge place joins.

@@ -1,7 +1,7 @@
 // The fields of the job format, big-endian, and what the first 7 bytes of a job decide.
 use crate::HeadRead;
 use crate::MOST_WORKLIST_CELLS;
-use grid::wide;
+use numbers::wide;
 ghost use mathlib.Core.Path.{_≡_};
 ghost use Prim.Native.Nat.{_+_, _<_};
 ghost use lib.ListN.{length};

@@ -6,7 +6,7 @@ use crate::head::byte_at;
 use crate::head::head_right;
 use crate::head::two_at;
 use function::Element;
-use grid::wide;
+use numbers::wide;
 ghost use mathlib.Core.Path.{_≡_};
 ghost use Prim.Native.Nat.{_+_, _*_, _≤_, _<_};
 ghost use lib.ListN.{length};

@@ -84,7 +84,7 @@ fn touching_agrees(
 ) -> bool
     requires { ⌜ (m ≤ 10) × (n ≤ 10) ⌝ }
 {
-    let refusal = cell_pair_assemblers::touching_refusal(
+    let refusal = lent_numbers::touching_refusal(
         f,
         m,
         n,
@@ -133,7 +133,7 @@ fn distant_agrees(
 ) -> bool
     requires { ⌜ (m ≤ 10) × (n ≤ 10) ⌝ }
 {
-    let refusal = cell_pair_assemblers::distant_refusal(
+    let refusal = lent_numbers::distant_refusal(
         f,
         m,
         n,

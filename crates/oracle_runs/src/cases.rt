@@ -1,8 +1,8 @@
 // The head of a case.
 use function::Element;
-use grid::wide;
 use integrands::Integrand;
 use integrands::Term;
+use numbers::wide;
 use recorded::digit_at;
 use recorded::finite_of;
 use recorded::four_at;

@@ -1,5 +1,5 @@
 // Parts of lists, and where the lists lent to an add begin.
-use grid::wide;
+use numbers::wide;
 use std::num::wrapping_add_usize;
 ghost use Prim.Native.Nat.{_≤_};
 

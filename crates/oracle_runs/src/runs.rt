@@ -8,7 +8,7 @@ use boundary_assemblers::Added;
 use boundary_assemblers::Looked;
 use boundary_assemblers::PlanNumbers;
 use boundary_assemblers::Run;
-use grid::wide;
+use numbers::wide;
 use recorded::same_floats;
 use recorded::same_numbers;
 

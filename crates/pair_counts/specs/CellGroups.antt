@@ -2,7 +2,7 @@
 use Prim.Native.Nat.{ℕ}
 use mathlib.Core.List.{List}
 use Rattle.lists.specs.Range.{range, filter}
-use Rattle.grid.specs.Cells.{has}
+use Rattle.grid.specs.Shape.{has}
 
 -- the cells that have the vertex v, rising, of C cells
 unfoldable pub atVertex : ℕ → List ℕ → ℕ → List ℕ

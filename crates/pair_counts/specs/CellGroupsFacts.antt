@@ -11,7 +11,7 @@ use borrow.Author.Tests.{eqb-true}
 use Rattle.lists.specs.Bool.{_and_, true≢false, and-left}
 use Rattle.lists.specs.Range.{range, filter, flatMap-ext, flatMap-nil, flatMap-below, flatMap-filter}
 use Rattle.lists.specs.Total.{total, gate, total-filter, total-ext, total-below, total-swap, pick}
-use Rattle.grid.specs.Cells.{has}
+use Rattle.grid.specs.Shape.{has}
 use Rattle.grid.specs.Mesh.{Mesh}
 use Rattle.function.specs.Colours.{colourCount}
 use Rattle.work_records.specs.Records.{patternCount}

@@ -15,8 +15,8 @@ use Rattle.lists.specs.Bool.{_and_, _or_, true≢false, every-at, and-right, or
 use Rattle.lists.specs.Bounded.{all, all-at, lt-or-le}
 use Rattle.lists.specs.Range.{range, length-range, all-in-at}
 use Rattle.lists.specs.Total.{gate, count, total-append, total-add, total-ext, total-length, total-const, count-split, gate-split}
-use Rattle.grid.specs.Cells.{share}
-use Rattle.grid.specs.Facts.{below-at}
+use Rattle.grid.specs.Shape.{share}
+use Rattle.numbers.specs.Ranges.{below-at}
 use Rattle.grid.specs.Mesh.{Mesh, cellsRight, verticesRight}
 use Rattle.work_records.specs.declared.WorkRecord.{WorkRecord}
 use Rattle.work_records.specs.Records.{rec, patternCount}

@@ -11,7 +11,7 @@ use borrow.Author.Tests.{eqb-true, eqb-false, eq-eqb, ne-eqb}
 use Rattle.lists.specs.Bool.{_and_}
 use Rattle.lists.specs.Range.{range, batch}
 use Rattle.lists.specs.Total.{total, gate, total-one, total-flatMap, total-when, total-ext, total-below, total-swap, total-inward, total-zero, total-batches, gate-and, pick, pick-none}
-use Rattle.grid.specs.Cells.{share}
+use Rattle.grid.specs.Shape.{share}
 use Rattle.grid.specs.Mesh.{Mesh}
 use Rattle.function.specs.Colours.{colourCount}
 use Rattle.work_records.specs.declared.WorkRecord.{WorkRecord}

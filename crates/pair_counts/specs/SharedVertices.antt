@@ -10,7 +10,7 @@ use lib.ListN.{getD}
 use Rattle.lists.specs.Bool.{_and_, true≢false, cases, and-left, and-right, and-both}
 use Rattle.lists.specs.Bounded.{least, lt-or-le, least-holds, least-before, least-none}
 use Rattle.grid.specs.Facts.{has-place, share-which, share-at}
-use Rattle.grid.specs.Cells.{has, share}
+use Rattle.grid.specs.Shape.{has, share}
 use Rattle.cell_pairs.specs.Patterns.{smallestShared}
 
 -- ---- a vertex of a cell

@@ -9,7 +9,7 @@ use lib.Dec.{eqb}
 use borrow.Author.Tests.{eqb-true, not-true}
 use Rattle.lists.specs.Bool.{_and_, and-left, and-right}
 use Rattle.lists.specs.Range.{range, batch, AllIn, all-in-flatMap, all-in-when, all-in-range, all-in-below, all-in-filter, all-in-batch}
-use Rattle.grid.specs.Cells.{share}
+use Rattle.grid.specs.Shape.{share}
 use Rattle.grid.specs.Mesh.{Mesh}
 use Rattle.work_records.specs.Records.{rec, patternCount, distantPattern}
 use Rattle.cell_pairs.specs.Patterns.{pattern, smallestShared}

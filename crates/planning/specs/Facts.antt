@@ -7,7 +7,7 @@ use mathlib.Core.List.{[], _∷_}
 use Rattle.lists.specs.Bool.{and-left, and-right}
 use Rattle.lists.specs.Refusals.{check, refusal, Answers, answers, refusal-first, refusal-rest}
 use Rattle.grid.specs.Mesh.{mostCells, meshChecks}
-use Rattle.grid.specs.Facts.{within-high}
+use Rattle.numbers.specs.Ranges.{within-high}
 use Rattle.function.specs.declared.Element.{Element}
 use Rattle.function.specs.Elements.{mostDim, dim, dimsRight}
 use Rattle.integrands.specs.Terms.{integrandRight}

@@ -9,7 +9,7 @@ use lib.ListN.{length, drop}
 use borrow.Author.Tests.{eqb-true}
 use Rattle.lists.specs.Bool.{every-at}
 use Rattle.grid.specs.Mesh.{mostCells, Mesh, verticesRight}
-use Rattle.grid.specs.Facts.{within-high}
+use Rattle.numbers.specs.Ranges.{within-high}
 use Rattle.function.specs.declared.Element.{Element}
 use Rattle.function.specs.Elements.{dim}
 use Rattle.function.specs.Numbering.{dofList, dofCount, ownerList}
@@ -17,10 +17,10 @@ use Rattle.function.specs.NumberingWalk.{Sized}
 use Rattle.function.specs.Colours.{colourList, colourCount, Colourable}
 use Rattle.function.specs.ColoursPromises.{count-at-most}
 use Rattle.work_records.specs.Records.{flat}
-use Rattle.cell_pairs.specs.WorkList.{distantPart, touchingPair, touchingPart, workList, sharingPairs, distantPairs}
+use Rattle.cell_pairs.specs.WorkList.{mostBatch, distantPart, touchingPair, touchingPart, workList, sharingPairs, distantPairs}
 use Rattle.pair_counts.specs.Counting.{Countable, split}
 use Rattle.touching_pairs.specs.Visits.{bare, Touchable}
-use Rattle.plans.specs.Planning.{PlanNumbers, ready, refused, listsOf, planRefusal, plan, planAnswer, planLists, unlessRefused, Planning, Lists, spaceOn, testSpace, trialSpace, mostBatch, batchRight, lengthsRight, planNumbers, writtenLists}
+use Rattle.plans.specs.Planning.{PlanNumbers, ready, refused, listsOf, planRefusal, plan, planAnswer, planLists, unlessRefused, Planning, Lists, spaceOn, testSpace, trialSpace, batchRight, lengthsRight, planNumbers, writtenLists}
 use Rattle.plans.specs.Accepted.{Accepted, counted, mesh-fine}
 use Rattle.planning.specs.Facts.{dims-small}
 use Rattle.planning.specs.Work.{Ready as WorkReady, Written}

@@ -11,7 +11,7 @@ use Rattle.grid.specs.Mesh.{mostCells, mostVertices, Mesh}
 use Rattle.function.specs.Colours.{colourCount}
 use Rattle.work_records.specs.Records.{width, flat}
 use Rattle.work_records.specs.Laws.{records, length-flat}
-use Rattle.cell_pairs.specs.WorkList.{coloured, distantPart, touchingPart, workList, distantPairs}
+use Rattle.cell_pairs.specs.WorkList.{mostBatch, coloured, distantPart, touchingPart, workList, distantPairs}
 use Rattle.pair_counts.specs.Counting.{Countable, split, length-distant, length-touching, length-work}
 use Rattle.pair_counts.specs.CellGroupsFacts.{colour-below}
 use Rattle.cells_by_key.specs.Groups.{cellsWith, Grouped, Cut, Below, Zeros}
@@ -26,7 +26,7 @@ pub record Ready (m : Mesh) (B : ℕ) (ts : List ℕ) (tn : ℕ) (rs : List ℕ)
   pub long : length (m .cellVertices) ≡ 3 * m .cells
   pub cells : m .cells ≤ mostCells
   pub top : m .vertices ≤ mostVertices
-  pub batch : B < 65536
+  pub batch : B ≤ mostBatch
   pub test : tn ≡ colourCount ts
   pub trial : rn ≡ colourCount rs
   pub test-few : tn ≤ mostCells

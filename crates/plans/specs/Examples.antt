@@ -9,7 +9,7 @@ use Rattle.function.specs.Examples.{element}
 use Rattle.integrands.specs.declared.Term.the-variants.{Bare}
 use Rattle.integrands.specs.Examples.{opened-integrands}
 use Rattle.cell_pairs.specs.Examples.{opened-cell-pairs}
-use Rattle.plans.specs.Planning.{Planning, listsFor, batchRight, lengthsRight, planRefusal, planNumbers, plan, plannedNumber, writtenLists, planLists}
+use Rattle.plans.specs.Planning.{Planning, PlanNumbers, Planned, ready, refused, listsFor, batchRight, lengthsRight, planRefusal, planNumbers, plan, plannedNumber, writtenLists, planLists}
 
 -- opens the definitions of this crate and of those below it
 unfoldable pub opened-plans : Unit {0}
@@ -25,6 +25,14 @@ vertexDofs m B =
 abbrev number : Planning → ℕ
 number x = plannedNumber (plan x (listsFor x))
 
+-- a number that it hands back
+abbrev handed : (PlanNumbers → ℕ) → Planning → ℕ
+handed f x = of (plan x (listsFor x))
+  where
+    of : Planned → ℕ
+    of (ready n) = f n
+    of (refused n) = 0
+
 -- M is accepted
 abbrev pub M-planned : Example
 M-planned = example (number (vertexDofs M 2)) 0
@@ -35,21 +43,21 @@ M-planned-holds = refl
 
 -- M6: N = 4, S = 5, 4 + 5 = 9, of what planning hands back
 abbrev pub M6-distant : Example
-M6-distant = example (planNumbers (vertexDofs M 2) .distant) 4
+M6-distant = example (handed (λ n. n .distant) (vertexDofs M 2)) 4
 
 pub M6-distant-holds : Holds M6-distant
 unfolding opened-plans
 M6-distant-holds = refl
 
 abbrev pub M6-touching : Example
-M6-touching = example (planNumbers (vertexDofs M 2) .touching) 5
+M6-touching = example (handed (λ n. n .touching) (vertexDofs M 2)) 5
 
 pub M6-touching-holds : Holds M6-touching
 unfolding opened-plans
 M6-touching-holds = refl
 
 abbrev pub M6-sum : Example
-M6-sum = example (planNumbers (vertexDofs M 2) .distant + planNumbers (vertexDofs M 2) .touching) 9
+M6-sum = example (handed (λ n. n .distant + n .touching) (vertexDofs M 2)) 9
 
 pub M6-sum-holds : Holds M6-sum
 unfolding opened-plans
@@ -59,7 +67,7 @@ M6-sum-holds = refl
 abbrev pub M-sizes : Example
 M-sizes =
     let x : Planning = record { mesh = M; test = element 1 0 0; trial = element 0 0 1; batch = 1; integrand = vertexDofs M 1 .integrand } in
-    example (planNumbers x .rows ∷ planNumbers x .columns ∷ []) (7 ∷ 3 ∷ [])
+    example (handed (λ n. n .rows) x ∷ handed (λ n. n .columns) x ∷ []) (7 ∷ 3 ∷ [])
 
 pub M-sizes-holds : Holds M-sizes
 unfolding opened-plans
@@ -79,6 +87,16 @@ M7-planned = example (number (vertexDofs M7-twice 1)) 0
 pub M7-planned-holds : Holds M7-planned
 unfolding opened-plans
 M7-planned-holds = refl
+
+-- and leave four records of 27
+abbrev pub M7-work : Example
+M7-work =
+    let x : Planning = vertexDofs M7-twice 1 in
+    example (planLists x (listsFor x) .work) (27 ∷ 0 ∷ 0 ∷ 27 ∷ 0 ∷ 1 ∷ 27 ∷ 1 ∷ 0 ∷ 27 ∷ 1 ∷ 1 ∷ [])
+
+pub M7-work-holds : Holds M7-work
+unfolding opened-plans
+M7-work-holds = refl
 
 -- M8: M planned with batch 0: 5. C = 2,049: 1
 abbrev pub M8-batch : Example

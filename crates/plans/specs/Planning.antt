@@ -6,7 +6,8 @@ use lib.ListN.{length, drop, replicate}
 use lib.Dec.{eqb}
 use Rattle.lists.specs.Bool.{every}
 use Rattle.lists.specs.Refusals.{Check, check, refusal}
-use Rattle.grid.specs.Mesh.{Mesh, within, meshChecks}
+use Rattle.grid.specs.Mesh.{Mesh, meshChecks}
+use Rattle.numbers.specs.Ranges.{within}
 use Rattle.function.specs.declared.Element.{Element}
 use Rattle.function.specs.Elements.{dim, dimsRight}
 use Rattle.function.specs.Numbering.{Space, dofList, dofCount, ownerList}
@@ -16,7 +17,7 @@ use Rattle.integrands.specs.Terms.{integrandRight}
 use Rattle.work_records.specs.declared.WorkRecord.{WorkRecord}
 use Rattle.work_records.specs.Records.{width, flat}
 use Rattle.cell_pairs.specs.Patterns.{patternsRight}
-use Rattle.cell_pairs.specs.WorkList.{workList, sharingPairs, distantPairs}
+use Rattle.cell_pairs.specs.WorkList.{mostBatch, workList, sharingPairs, distantPairs}
 
 -- What planning is given
 pub record Planning : Type 0 where
@@ -94,9 +95,6 @@ trialSpace x = spaceOn (x .mesh) (x .trial)
 -- ---- the checks
 
 -- 5: batch is from 1 to 65,535
-abbrev pub mostBatch : ℕ
-mostBatch = 65535
-
 unfoldable pub batchRight : ℕ → Bool
 batchRight B = within 1 mostBatch B
 

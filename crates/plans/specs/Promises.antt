@@ -64,10 +64,16 @@ pub record Spaced (s : Space) (C count : ℕ) (dofs colours owners before : List
 -- ---- all of it
 
 pub record Promised (x : Planning) (l : Lists) (n : PlanNumbers) : Type 0 where
+  -- sizes, elements and integrand are those that planning was given
+  pub sizes : (n .cells ≡ x .mesh .cells) × (n .vertices ≡ x .mesh .vertices) × (n .edges ≡ x .mesh .edges)
+  pub elements : (n .test ≡ x .test) × (n .trial ≡ x .trial)
+  pub integrand : n .integrand ≡ x .integrand
   -- S counts the ordered pairs of cells that share a vertex, N those that share none, and S + N = C·C
   pub touching : n .touching ≡ sharingPairs (x .mesh)
   pub distant : n .distant ≡ distantPairs (x .mesh)
   pub all-pairs : n .touching + n .distant ≡ x .mesh .cells * x .mesh .cells
+  -- the work list holds the records of the work order
+  pub order : recordsOf (planLists x l .work) ≡ workRecords x
   pub work : Listed (x .mesh) (n .distant) (planLists x l .work)
   pub test : Spaced (testSpace x) (x .mesh .cells) (n .rows) (planLists x l .testDofs) (planLists x l .testColours) (planLists x l .testOwners) (l .testOwners)
   pub trial : Spaced (trialSpace x) (x .mesh .cells) (n .columns) (planLists x l .trialDofs) (planLists x l .trialColours) (planLists x l .trialOwners) (l .trialOwners)
@@ -127,9 +133,13 @@ promised x l n e =
     let ok : Accepted x l = accepted x l (r .none) in
     rw (r .numbers)
     (record {
+      sizes = (refl, refl, refl);
+      elements = (refl, refl);
+      integrand = refl;
       touching = refl;
       distant = refl;
       all-pairs = split (x .mesh);
+      order = rw (r .none) (records-flat (workRecords x));
       work = rw (r .none) (listed ok);
       test = rw (r .none) (spaced ok (x .test) (l .testOwners));
       trial = rw (r .none) (spaced ok (x .trial) (l .trialOwners));

@@ -7,7 +7,7 @@ use lib.Dec.{leb, eqb}
 use lib.Ieee.{Float}
 use Rattle.lists.specs.Bool.{_and_}
 use Rattle.lists.specs.Fold.{listOf}
-use Rattle.cell_pair_assemblers.specs.Lent.{Touching, Distant}
+use Rattle.lent_numbers.specs.Lent.{Touching, Distant}
 use Rattle.runs.specs.Runs.{Answer, found, accepted, refused}
 use Rattle.runs.specs.Calls.{Call, looks, addsDistant, addsTouching, addsEntries}
 

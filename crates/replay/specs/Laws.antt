@@ -14,7 +14,7 @@ use borrow.Author.Tests.{leb-true, leb-false, eq-eqb, ne-eqb}
 use Rattle.lists.specs.Fold.{over, over-snoc, listOf}
 use Rattle.lists.specs.Range.{flatMap-append, flatMap-one}
 use Rattle.lists.specs.Stores.{sets-append, sets-front}
-use Rattle.cell_pair_assemblers.specs.Lent.{touching, distant}
+use Rattle.lent_numbers.specs.Lent.{touching, distant}
 use Rattle.plans.specs.Planning.{Planning, Lists, PlanNumbers, Planned, ready, refused as not-planned, plan, planNumbers, planAnswer, planRefusal, planLists, unlessRefused}
 use Rattle.plans.specs.Accepted.{ready-is}
 use Rattle.runs.specs.Runs.{Run, Plan, EntryLists, Reply, Answer, found, accepted, refused, begun, look, addDistant, addTouching, addEntries, distantMatrix, touchingMatrix, entriesWritten}

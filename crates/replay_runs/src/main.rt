@@ -5,8 +5,8 @@ mod cases;
 
 use crate::cases::Case;
 use crate::cases::read_case;
-use grid::wide;
 use libc::STDOUT_FILENO;
+use numbers::wide;
 use recorded::at_end;
 use recorded::read_floats;
 use recorded::read_numbers;

@@ -13,14 +13,15 @@ use borrow.Author.Tests.{le-leb, lt-ltb, eq-eqb, eqb-false, not-true}
 use Rattle.lists.specs.Bool.{_and_, _or_, every, every-at, every-of, end, _also_, true≢false, and-left, or-left, or-right, cases}
 use Rattle.lists.specs.Fold.{over-agree}
 use Rattle.lists.specs.Refusals.{Check, check, refusal, unless, refusal-at}
-use Rattle.grid.specs.Cells.{share}
-use Rattle.grid.specs.Mesh.{allBelow, cellsRight, verticesRight, edgesRight}
+use Rattle.grid.specs.Shape.{share}
+use Rattle.grid.specs.Mesh.{cellsRight, verticesRight, edgesRight}
+use Rattle.numbers.specs.Ranges.{allBelow}
 use Rattle.function.specs.Elements.{dim}
 use Rattle.function.specs.Numbering.{dofList, dofCount}
 use Rattle.function.specs.NumberingPromises.{dof-list-length, dof-count-le}
-use Rattle.cell_pair_assemblers.specs.Lent.{Touching, Distant}
-use Rattle.cell_pair_assemblers.specs.Entries.{touchingEntry, distantEntry}
-use Rattle.local_matrix.specs.Adding.{addLocal}
+use Rattle.lent_numbers.specs.Lent.{Touching, Distant}
+use Rattle.lent_numbers.specs.Entries.{touchingEntry, distantEntry}
+use Rattle.scatter.specs.Adding.{addLocal}
 use Rattle.work_records.specs.declared.WorkRecord.{WorkRecord}
 use Rattle.work_records.specs.Records.{width, rec, flat, recordAt}
 use Rattle.cell_pairs.specs.WorkList.{distantPairs}

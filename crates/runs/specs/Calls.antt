@@ -3,7 +3,7 @@
 use mathlib.Core.List.{List, [], _∷_, _++_}
 use lib.Ieee.{Float}
 use Rattle.lists.specs.Fold.{over}
-use Rattle.cell_pair_assemblers.specs.Lent.{Touching, Distant}
+use Rattle.lent_numbers.specs.Lent.{Touching, Distant}
 use Rattle.runs.specs.Runs.{Run, Plan, EntryLists, Answer, Reply, look, addDistant, addTouching, addEntries, distantMatrix, touchingMatrix, entriesWritten}
 
 -- A call, with its arguments other than run, plan, matrix and entry lists

@@ -10,7 +10,7 @@ use lib.Seq.{getD-take, getD-drop}
 use lib.Dec.{ltb}
 use borrow.Author.Tests.{lt-ltb}
 use Rattle.lists.specs.Bounded.{all-of}
-use Rattle.grid.specs.Mesh.{allBelow}
+use Rattle.numbers.specs.Ranges.{allBelow}
 use Rattle.function.specs.Elements.{dim}
 use Rattle.function.specs.Numbering.{Space, dofList, dofCount}
 use Rattle.function.specs.NumberingPromises.{dof-below}

@@ -7,7 +7,7 @@ use mathlib.Core.List.{List, flatMap, map}
 use lib.ListN.{length, getD, take, length-map}
 use lib.Dec.{eqb}
 use lib.Ieee.{Float}
-use Rattle.cell_pair_assemblers.specs.Lent.{Touching}
+use Rattle.lent_numbers.specs.Lent.{Touching}
 use Rattle.work_records.specs.Records.{rec}
 use Rattle.cell_pairs.specs.WorkList.{touchingPart, distantPairs}
 use Rattle.plans.specs.Planning.{Planning, Lists, PlanNumbers, ready, plan, planLists, workRecords}

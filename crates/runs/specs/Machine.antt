@@ -10,16 +10,16 @@ use lib.Ieee.{Float}
 use Rattle.lists.specs.Bool.{_and_, every}
 use Rattle.lists.specs.Fold.{over}
 use Rattle.lists.specs.Refusals.{Check, check, refusal}
-use Rattle.grid.specs.Cells.{share}
+use Rattle.grid.specs.Shape.{share}
 use Rattle.function.specs.Elements.{dim}
 use Rattle.function.specs.Numbering.{dofList, dofCount}
 use Rattle.integrands.specs.declared.Integrand.{Integrand}
-use Rattle.cell_pair_assemblers.specs.Lent.{touchingChecks, distantChecks}
-use Rattle.cell_pair_assemblers.specs.Entries.{touchingEntry, distantEntry}
+use Rattle.lent_numbers.specs.Lent.{touchingChecks, distantChecks}
+use Rattle.lent_numbers.specs.Entries.{touchingEntry, distantEntry}
 use Rattle.work_records.specs.declared.WorkRecord.{WorkRecord}
 use Rattle.work_records.specs.Records.{rec}
 use Rattle.cell_pairs.specs.WorkList.{distantPairs}
-use Rattle.local_matrix.specs.Adding.{addLocal, localRows, localColumns, localValues}
+use Rattle.scatter.specs.Adding.{addLocal, localRows, localColumns, localValues}
 use Rattle.plans.specs.Planning.{Planning, testSpace, trialSpace, workRecords, unlessRefused}
 use Rattle.runs.specs.Runs.{EntryLists, cellDofs, Answer, found, accepted, answered}
 use Rattle.runs.specs.Calls.{Call, looks, addsDistant, addsTouching, addsEntries}

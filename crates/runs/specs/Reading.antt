@@ -10,11 +10,11 @@ use Rattle.lists.specs.Range.{range, when}
 use Rattle.lists.specs.Fold.{over}
 use Rattle.lists.specs.Refusals.{refusal}
 use Rattle.lists.specs.Total.{count}
-use Rattle.integrands.specs.Floats.{_⊕_}
-use Rattle.cell_pair_assemblers.specs.Lent.{Touching}
-use Rattle.cell_pair_assemblers.specs.Entries.{touchingEntry, distantEntry}
+use Rattle.numbers.specs.Floats.{_⊕_}
+use Rattle.lent_numbers.specs.Lent.{Touching}
+use Rattle.lent_numbers.specs.Entries.{touchingEntry, distantEntry}
 use Rattle.work_records.specs.declared.WorkRecord.{WorkRecord}
-use Rattle.local_matrix.specs.Adding.{localRows, localColumns, localValues}
+use Rattle.scatter.specs.Adding.{localRows, localColumns, localValues}
 use Rattle.runs.specs.Runs.{EntryLists, Answer, found, accepted, refused, answered}
 use Rattle.runs.specs.Calls.{Call, looks, addsDistant, addsTouching, addsEntries}
 use Rattle.runs.specs.Machine.{Machine, recordNo, callChecks, granted}

@@ -1,5 +1,5 @@
 -- What a list of calls leaves the machine in, as it is read: the calls that were accepted took the pairs in order. Assumes nothing.
-use Prim.Native.Nat.{ℕ, zero, suc, _+_, _*_, _<_}
+use Prim.Native.Nat.{ℕ, zero, suc, _+_, _*_, _<_, _≤_}
 use native.Mathlib.Nat.{add-zero}
 use native.Mathlib.Numerals.{add-one}
 use native.Mathlib.Omega.{arith}
@@ -15,14 +15,22 @@ use Rattle.lists.specs.Range.{range, when, flatMap-range, flatMap-none}
 use Rattle.lists.specs.Fold.{upto, over, upto-keeps}
 use Rattle.lists.specs.Refusals.{refusal, unless}
 use Rattle.lists.specs.Total.{count, total, gate}
-use Rattle.integrands.specs.Floats.{_⊕_}
-use Rattle.local_matrix.specs.Adding.{addAt, addLocal}
-use Rattle.local_matrix.specs.AddingFacts.{length-addAt, length-addLocal}
+use Rattle.numbers.specs.Floats.{_⊕_}
+use Rattle.scatter.specs.Adding.{addAt, addLocal}
+use Rattle.scatter.specs.AddingFacts.{length-addAt, length-addLocal}
 use Rattle.plans.specs.Planning.{unlessRefused}
 use Rattle.runs.specs.Runs.{EntryLists, Answer, found, refused, answered}
 use Rattle.runs.specs.Calls.{Call, looks, addsDistant, addsTouching, addsEntries}
 use Rattle.runs.specs.Machine.{Machine, State, recordNo, listsSized, callChecks, addPair, writePair, moved, granted, callRefusal, machineStep, start, fresh, machineRun}
 use Rattle.runs.specs.Reading.{isAccepted, acceptances, taken, plusAll, entriesAt, pairEntries, entriesFrom, answerAt}
+
+-- no more pass a test in the front of a list than in the list
+pub count-take : {A : Type 0} (p : A → Bool) (n : ℕ) (xs : List A) → count p (take n xs) ≤ count p xs
+unfolding total
+count-take p zero [] = omega arith
+count-take p zero (x ∷ xs) = omega arith
+count-take p (suc n) [] = omega arith
+count-take p (suc n) (x ∷ xs) = omega (arith, count-take p n xs)
 
 -- ---- one place of the matrix
 

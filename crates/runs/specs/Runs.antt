@@ -9,12 +9,13 @@ use lib.Dec.{leb, ltb, eqb}
 use lib.Ieee.{Float}
 use Rattle.lists.specs.Bool.{_and_, _or_, every}
 use Rattle.lists.specs.Refusals.{Check, check, refusal}
-use Rattle.grid.specs.Mesh.{mostCells, mostVertices, mostEdges, within, allBelow}
+use Rattle.grid.specs.Mesh.{mostCells, mostVertices, mostEdges}
+use Rattle.numbers.specs.Ranges.{within, allBelow}
 use Rattle.function.specs.Elements.{dim, dimsRight}
 use Rattle.integrands.specs.Terms.{integrandRight}
-use Rattle.cell_pair_assemblers.specs.Lent.{Touching, Distant, touchingChecks, distantChecks}
-use Rattle.cell_pair_assemblers.specs.Entries.{touchingEntry, distantEntry}
-use Rattle.local_matrix.specs.Adding.{addLocal, localRows, localColumns, localValues}
+use Rattle.lent_numbers.specs.Lent.{Touching, Distant, touchingChecks, distantChecks}
+use Rattle.lent_numbers.specs.Entries.{touchingEntry, distantEntry}
+use Rattle.scatter.specs.Adding.{addLocal, localRows, localColumns, localValues}
 use Rattle.work_records.specs.declared.WorkRecord.{WorkRecord}
 use Rattle.work_records.specs.Records.{patternCount, distantPattern, width, recordAt}
 use Rattle.plans.specs.Planning.{PlanNumbers, unlessRefused}

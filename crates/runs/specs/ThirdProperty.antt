@@ -2,21 +2,27 @@
 -- list from a fresh dense run on the plan that planning leaves, give. Assumes nothing.
 use Prim.Native.Nat.{ℕ, _*_, _<_, _≤_}
 use native.Mathlib.Nat.{zero-add}
+use native.Mathlib.Omega.{arith}
 use mathlib.Core.Path.{_≡_, refl, ap, _∙_}
 use mathlib.Core.Bool.{false, cond}
 use mathlib.Core.List.{List}
 use lib.ListN.{length, getD, take}
+use lib.Seq.{take-all}
 use lib.Dec.{eqb}
 use lib.Ieee.{Float, nan}
+use Rattle.lists.specs.Total.{count}
 use Rattle.work_records.specs.Records.{rec}
+use Rattle.pair_counts.specs.WorkRecords.{ofPair}
+use Rattle.pair_counts.specs.Counting.{once, length-work}
 use Rattle.plans.specs.Planning.{Planning, Lists, PlanNumbers, ready, plan, planLists, workRecords}
+use Rattle.plans.specs.Accepted.{Accepted, accepted, counted, ready-is}
 use Rattle.runs.specs.Runs.{EntryLists, found, refused, begin}
 use Rattle.runs.specs.Calls.{Call, looks, Progress, callAll}
 use Rattle.runs.specs.Machine.{machineAlong, machineOf, machineRun}
 use Rattle.runs.specs.Beside.{runAt, embed}
 use Rattle.runs.specs.Listed.{planIn, machine-beside, machine-between}
 use Rattle.runs.specs.Reading.{acceptances, taken, plusAll, entriesFrom, answerAt}
-use Rattle.runs.specs.ReadingFacts.{reading, pairs-place, length-pairs, look-answer}
+use Rattle.runs.specs.ReadingFacts.{count-take, reading, pairs-place, length-pairs, look-answer}
 
 pub record ThirdProperty (x : Planning) (calls : List Call) (M : List Float) (lists : EntryLists) (q : Progress) : Type 0 where
   -- every answer, the run, every number of the matrix and of the entry lists are those of the machine of the mesh
@@ -30,6 +36,10 @@ pub record ThirdProperty (x : Planning) (calls : List Call) (M : List Float) (li
   pub size : length (q .matrix) ≡ length M
   pub entries : (at : ℕ) → at < length M
       → getD (q .matrix) at nan ≡ plusAll (entriesFrom (machineOf x false) 0 (taken calls (q .answers)) at) (getD M at nan)
+  -- no ordered pair of cells has entered twice, and where p = C·C each has entered once
+  pub never-twice : (i j : ℕ) → i < x .mesh .cells → j < x .mesh .cells → count (ofPair i j) (take (q .run .position) (workRecords x)) ≤ 1
+  pub each-once : q .run .position ≡ x .mesh .cells * x .mesh .cells → (i j : ℕ) → i < x .mesh .cells → j < x .mesh .cells
+      → count (ofPair i j) (take (q .run .position) (workRecords x)) ≡ 1
   -- each look answers the record at the number of acceptances before it, or 20 where that number is C·C
   pub looked : (k : ℕ) → k < length calls → getD calls k looks ≡ looks
       → (let p = acceptances (take k (q .answers)) in
@@ -53,10 +63,21 @@ module _ (x : Planning) (l : Lists) (n : PlanNumbers) (e : plan x l ≡ ready n)
         within = machine-between x l n e false calls M lists .to;
         size = ap length (r .matrix) ∙ length-pairs m 0 _ M;
         entries = λ at h. ap (λ (A : List Float). getD A at nan) (r .matrix) ∙ pairs-place m 0 _ M at h;
+        never-twice = λ i j hi hj. omega (arith, count-take (ofPair i j) (machineRun m calls M lists .position) (workRecords x), once-all i j hi hj);
+        each-once = λ end i j hi hj. rw end (ap (count (ofPair i j)) (take-all (x .mesh .cells * x .mesh .cells) (workRecords x) (omega (arith, work-long))) ∙ once-all i j hi hj);
         looked = λ k h c. each k h ∙ ap (answerAt m _ M lists) c ∙ look-answer m _ M lists;
         each = each;
       })
     where
+      ok : Accepted x l
+      ok = accepted x l (ready-is e .none)
+
+      work-long : length (workRecords x) ≡ x .mesh .cells * x .mesh .cells
+      work-long = length-work (x .mesh) (x .batch) _ _ (counted ok)
+
+      once-all : (i j : ℕ) → i < x .mesh .cells → j < x .mesh .cells → count (ofPair i j) (workRecords x) ≡ 1
+      once-all = once (x .mesh) (x .batch) _ _ (counted ok)
+
       each : (k : ℕ) → k < length calls
           → (let answers = machineRun (machineOf x false) calls M lists .answers in
           getD answers k (refused 0) ≡ answerAt (machineOf x false) (acceptances (take k answers)) M lists (getD calls k looks))

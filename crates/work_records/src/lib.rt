@@ -14,7 +14,7 @@ pub const WIDTH: usize = 3;
 pub const PATTERNS: usize = 28;
 
 // Stands where there is no pattern: one more than the last.
-pub const NO_PATTERN: u32 = 28;
+pub const NO_PATTERN: u32 = PATTERNS as u32;
 
 // The pattern of a distant pair.
 pub const DISTANT: u32 = 255;

@@ -5,8 +5,8 @@ use mathlib.Core.List.{List}
 use lib.ListN.{length, take}
 use Rattle.job.specs.Head.{readHead, enoughBytes}
 use Rattle.job.specs.Job.{mostWorklistCells}
-use Rattle.job_text.specs.Text.{worklist}
-use Rattle.job_text.specs.PlannedText.{mostText}
+use Rattle.worklist_text.specs.Text.{worklist}
+use Rattle.worklist_text.specs.PlannedText.{mostText}
 use Rattle.worklist_io.specs.declared.Answered.{Answered}
 
 -- the most bytes that are kept: one more than the largest job has

@@ -6,10 +6,11 @@ use mathlib.Core.List.{List, _++_}
 use lib.ListN.{length, take, drop}
 use lib.Seq.{length-take-le, take-all, take-at, take-take}
 use Rattle.job.specs.Head.{readHead, headNumber, Says, sizeRefusal}
+use Rattle.job.specs.Job.{mostWorklistCells}
 use Rattle.job.specs.HeadFacts.{head-alone, says-long, enough-seven}
-use Rattle.job_text.specs.Text.{refusedLine, worklist}
-use Rattle.job_text.specs.PlannedText.{Printed}
-use Rattle.job_text.specs.WorklistFacts.{head-wrong-text, head-large-text}
+use Rattle.worklist_text.specs.Text.{refusedLine, worklist}
+use Rattle.worklist_text.specs.PlannedText.{Printed}
+use Rattle.worklist_text.specs.WorklistFacts.{head-wrong-text, head-large-text}
 use Rattle.worklist_io.specs.declared.Answered.{Answered}
 use Rattle.worklist_io.specs.Answers.{Shown, Answers}
 
@@ -64,7 +65,7 @@ module _ (bytes array : List ℕ) (r : Answered) where
         }
 
     -- they say more than 64 cells, and they alone are kept
-    pub large-answers : 64 < C → 7 ≤ r .came → r .came ≤ 20 + 12 * C → 7 ≤ length bytes → r .kept ≡ 7 → Shown array (r .text) (refusedLine (sizeRefusal C (r .came)))
+    pub large-answers : mostWorklistCells < C → 7 ≤ r .came → r .came ≤ 20 + 12 * C → 7 ≤ length bytes → r .kept ≡ 7 → Shown array (r .text) (refusedLine (sizeRefusal C (r .came)))
         → Answers bytes array r
     large-answers large h few room kept s =
         record {

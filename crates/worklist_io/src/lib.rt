@@ -1,22 +1,21 @@
-// Reads one job from standard input and prints its work list, or `refused n`. No more of the input is read than the answer needs:
+// Reads one job from a file, as standard input, and prints its work list, or `refused n`. No more of the input is read than the answer needs:
 // the first 7 bytes say how long a job is, and one byte more than that is read, to see that it is not longer.
-use grid::wide;
 use job::HeadRead;
 use job::MOST_WORKLIST_CELLS;
 use job::read_head;
 use job::size_refusal;
-use job_text::MOST_TEXT;
-use job_text::refused_text;
-use job_text::worklist_text;
-use libc::STDIN_FILENO;
 use libc::STDOUT_FILENO;
+use numbers::wide;
+use worklist_text::MOST_TEXT;
+use worklist_text::refused_text;
+use worklist_text::worklist_text;
 ghost use mathlib.Core.Path.{_≡_};
 ghost use Prim.Native.Nat.{_+_, _*_, _≤_, min};
 ghost use lib.ListN.{length, take};
 ghost use Rattle.job.specs.Job.{mostWorklistCells};
 ghost use Rattle.job.specs.Head.{readHead, Says, sizeRefusal};
-ghost use Rattle.job_text.specs.Text.{refusedLine, worklist};
-ghost use Rattle.job_text.specs.PlannedText.{Printed};
+ghost use Rattle.worklist_text.specs.Text.{refusedLine, worklist};
+ghost use Rattle.worklist_text.specs.PlannedText.{Printed};
 ghost use Rattle.worklist_io.specs.Answers.{mostBytes, Shown, Answers};
 
 // The most bytes that are kept: one more than the largest job has.
@@ -36,21 +35,21 @@ fn least(a: usize, b: usize) -> usize
 }
 
 // Reads n bytes into the piece, as far as it has room and so many come.
-fn read_some(piece: &mut [u8], n: usize) -> usize
+fn read_some(fd: i32, piece: &mut [u8], n: usize) -> usize
     ensures { λ r. ⌜ r ≤ n ⌝ }
 {
     let most = least(n, piece.len());
-    let got = io::read_full(STDIN_FILENO, &mut piece[..most]);
+    let got = io::read_full(fd, &mut piece[..most]);
     least(got, n)
 }
 
 // Reads n bytes, as far as so many come, a piece at a time: none is kept.
-fn skip(piece: &mut [u8], n: usize) -> usize
+fn skip(fd: i32, piece: &mut [u8], n: usize) -> usize
     ensures { λ r. ⌜ r ≤ n ⌝ }
 {
     let mut count = 0;
     while count < n {
-        let got = read_some(piece, n - count);
+        let got = read_some(fd, piece, n - count);
         if got == 0 {
             return count;
         }
@@ -68,11 +67,11 @@ fn text_of(bytes: &[u8], n: usize, text: &mut [u8; MOST_TEXT]) -> usize
 }
 
 // The text of a job of at most 64 cells, whose first 7 bytes are read.
-fn small_text(bytes: &mut [u8], cells: u32, text: &mut [u8; MOST_TEXT]) -> Answered
+fn small_text(fd: i32, bytes: &mut [u8], cells: u32, text: &mut [u8; MOST_TEXT]) -> Answered
     requires { ⌜ (cells ≤ mostWorklistCells) × (mostBytes ≤ length (now bytes)) × (Says (readHead (take 7 (now bytes))) cells) ⌝ }
     ensures { λ r. ⌜ Answers (now (bytes .exit)) (now (text .exit)) r ⌝ }
 {
-    let came = 7 + read_some(&mut bytes[7..], 13 + 12 * wide(cells));
+    let came = 7 + read_some(fd, &mut bytes[7..], 13 + 12 * wide(cells));
     let shown = text_of(bytes, came, text);
     Answered {
         came: came,
@@ -94,23 +93,23 @@ fn refused_answer(n: u32, came: usize, kept: usize, text: &mut [u8; MOST_TEXT]) 
 }
 
 // The text of a job of more than 64 cells, whose first 7 bytes are read: the others are not kept.
-fn large_text(cells: u32, text: &mut [u8; MOST_TEXT]) -> Answered
+fn large_text(fd: i32, cells: u32, text: &mut [u8; MOST_TEXT]) -> Answered
     ensures { λ r. ⌜ (7 ≤ r .came) × (r .came ≤ 20 + 12 * cells) × (r .kept ≡ 7) × Shown (now (text .exit)) (r .text) (refusedLine (sizeRefusal cells (r .came))) ⌝ }
 {
-    let came = 7 + skip(text, 13 + 12 * wide(cells));
+    let came = 7 + skip(fd, text, 13 + 12 * wide(cells));
     let refused = size_refusal(cells, came);
     refused_answer(refused, came, 7, text)
 }
 
 // The text of a job of so many cells, whose first 7 bytes are read.
-fn text_by_cells(bytes: &mut [u8], cells: u32, text: &mut [u8; MOST_TEXT]) -> Answered
+fn text_by_cells(fd: i32, bytes: &mut [u8], cells: u32, text: &mut [u8; MOST_TEXT]) -> Answered
     requires { ⌜ (mostBytes ≤ length (now bytes)) × (Says (readHead (take 7 (now bytes))) cells) ⌝ }
     ensures { λ r. ⌜ Answers (now (bytes .exit)) (now (text .exit)) r ⌝ }
 {
     if cells <= MOST_WORKLIST_CELLS {
-        return small_text(bytes, cells, text);
+        return small_text(fd, bytes, cells, text);
     }
-    large_text(cells, text)
+    large_text(fd, cells, text)
 }
 
 // What the first n bytes say.
@@ -121,15 +120,15 @@ fn head_of(bytes: &[u8], n: usize) -> HeadRead
     read_head(&bytes[..n])
 }
 
-// The text of what standard input holds.
-fn answer(bytes: &mut [u8], text: &mut [u8; MOST_TEXT]) -> Answered
+// The text of what the file holds.
+fn answer(fd: i32, bytes: &mut [u8], text: &mut [u8; MOST_TEXT]) -> Answered
     requires { ⌜ mostBytes ≤ length (now bytes) ⌝ }
     ensures { λ r. ⌜ Answers (now (bytes .exit)) (now (text .exit)) r ⌝ }
 {
-    let got = read_some(bytes, 7);
+    let got = read_some(fd, bytes, 7);
     let head = head_of(bytes, got);
     match head {
-        HeadRead::Cells(cells) => text_by_cells(bytes, cells, text),
+        HeadRead::Cells(cells) => text_by_cells(fd, bytes, cells, text),
         HeadRead::Refused(n) => refused_answer(n, got, got, text),
     }
 }
@@ -144,16 +143,16 @@ fn print(text: &[u8], n: usize)
 }
 
 // Answers, and prints the answer.
-fn run(bytes: &mut [u8], text: &mut [u8; MOST_TEXT])
+fn run(fd: i32, bytes: &mut [u8], text: &mut [u8; MOST_TEXT])
     requires { ⌜ mostBytes ≤ length (now bytes) ⌝ }
 {
-    let answered = answer(bytes, text);
+    let answered = answer(fd, bytes, text);
     print(text, answered.text);
 }
 
-// The whole of the program `worklist`.
-pub fn answer_standard_input() {
+// The whole of the program `worklist`, on the job that an open file holds.
+pub fn answer_file(fd: i32) {
     let mut bytes = [0u8; MOST_BYTES];
     let mut text = [0u8; MOST_TEXT];
-    run(&mut bytes, &mut text);
+    run(fd, &mut bytes, &mut text);
 }

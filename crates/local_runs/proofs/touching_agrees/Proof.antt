@@ -1,6 +1,6 @@
 -- `local_runs::touching_agrees` is safe: a pair that is not refused fits. Assumes nothing.
 use mathlib.Core.Path.{sym, _∙_}
-use Rattle.cell_pair_assemblers.specs.Facts.{touching-fits}
+use Rattle.lent_numbers.specs.Sizes.{touching-fits}
 use borrow.Author.Needs.{needs}
 use Rattle.local_runs.proofs.touching_agrees.Statement.{statement}
 use Rattle.local_runs.proofs.touching_agrees.Tie as tie

@@ -5,6 +5,7 @@ use mathlib.Core.Path.{sym, _∙_}
 use lib.ListN.{length}
 use Rattle.job.specs.HeadFacts.{cells-said, refused-said}
 use Rattle.worklist_io.specs.AnswersFacts.{came-seven, wrong-answers}
+use Rattle.worklist_io.specs.Answers.{mostBytes}
 use borrow.Author.Needs.{needs}
 use Rattle.worklist_io.proofs.answer.Statement.{statement}
 use Rattle.worklist_io.proofs.answer.Tie as tie
@@ -22,8 +23,8 @@ text-by-cells-requires : tie.Need-text-by-cells-requires
 text-by-cells-requires c κs =
     let s = c .before .before .before .before .before .before .before .before .before .before .before .before in
     let more = c .before .before .before .before .before .before .before .before .before .read-some in
-    let bytes = more .last .0 in
-    let long : 788 ≤ length bytes = omega (arith, more .kept .0, s .pre) in
+    let bytes = more .last .1 .0 in
+    let long : mostBytes ≤ length bytes = omega (arith, more .kept .1 .0, s .pre) in
     (long, came-seven bytes (more .result) (more .ensures) (omega (arith, long)) (cells-said (sym (c .before .before .before .before .before .head-of .ensures) ∙ c .before .before .before .head .given .1)))
 
 enum-known-head-2 : tie.Need-enum-known-head-2
@@ -47,7 +48,7 @@ returns-2 c =
     let s = c .before .before .before .before .before .before .before .before .before .before .before .before in
     let more = c .before .before .before .before .before .before .before .before .before .read-some in
     let said = refused-said _ (sym (c .before .before .before .before .before .head-of .ensures) ∙ c .before .before .before .head2 .given .1) in
-    wrong-answers _ _ _ (omega (arith, e .0, more .ensures)) (omega (arith, e .0, more .ensures, more .kept .0, s .pre)) (e .1 ∙ sym (e .0)) (rw (e .0) (said .0)) (said .1) (e .2)
+    wrong-answers _ _ _ (omega (arith, e .0, more .ensures)) (omega (arith, e .0, more .ensures, more .kept .1 .0, s .pre)) (e .1 ∙ sym (e .0)) (rw (e .0) (said .0)) (said .1) (e .2)
 
 pub answer-spec : {M : Type 1} → statement M
 answer-spec =

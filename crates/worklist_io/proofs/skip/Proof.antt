@@ -7,10 +7,10 @@ use Rattle.worklist_io.proofs.skip.Statement.{statement}
 use Rattle.worklist_io.proofs.skip.Tie as tie
 
 abbrev Inv-loop : tie.InvT-loop
-Inv-loop piece₀ n count₀ piece count = (count ≤ n) × (length piece ≡ length piece₀)
+Inv-loop fd piece₀ n count₀ piece count = (count ≤ n) × (length piece ≡ length piece₀)
 
 abbrev μ-loop : tie.MeasureT-loop
-μ-loop piece₀ n count₀ piece count = n - count
+μ-loop fd piece₀ n count₀ piece count = n - count
 
 loop-holds : tie.Need-loop-holds Inv-loop μ-loop
 loop-holds c = search needs

@@ -2,8 +2,8 @@
 use native.Mathlib.Omega.{arith}
 use mathlib.Core.Path.{sym, _∙_}
 use Rattle.lists.specs.Bool.{and-right}
-use Rattle.cell_pair_assemblers.specs.Entries.{touchingEntry}
-use Rattle.cell_pair_assemblers.specs.Facts.{touching-fits}
+use Rattle.lent_numbers.specs.Entries.{touchingEntry}
+use Rattle.lent_numbers.specs.Sizes.{touching-fits}
 use Rattle.runs.specs.Runs.{entriesRefusal, addEntries, entriesWritten}
 use Rattle.boundary_assemblers.specs.RunFacts.{standing}
 use Rattle.boundary_assemblers.specs.AddFacts.{all-pass, add-refused, add-accepted}

@@ -1,8 +1,8 @@
 -- `boundary_assemblers::Run::add_touching` meets its contract: a refusal is answered as such, and nothing is written; where there is none, the local matrix is added. Assumes nothing.
 use native.Mathlib.Omega.{arith}
 use mathlib.Core.Path.{sym, _∙_}
-use Rattle.cell_pair_assemblers.specs.Entries.{touchingEntry}
-use Rattle.cell_pair_assemblers.specs.Facts.{touching-fits}
+use Rattle.lent_numbers.specs.Entries.{touchingEntry}
+use Rattle.lent_numbers.specs.Sizes.{touching-fits}
 use Rattle.runs.specs.Runs.{touchingRefusal, addTouching, touchingMatrix}
 use Rattle.boundary_assemblers.specs.RunFacts.{standing}
 use Rattle.boundary_assemblers.specs.AddFacts.{all-pass, add-refused, add-accepted, sum-is}

@@ -4,7 +4,7 @@ use Prim.Native.Nat.{ℕ, _-_, _≤_}
 use native.Mathlib.Omega.{arith}
 use lib.Ieee as Ieee
 use Rattle.integrands.specs.Columns.{Held}
-use Rattle.cell_pair_assemblers.specs.Lent.{distant}
+use Rattle.lent_numbers.specs.Lent.{distant}
 use Rattle.cell_pair_assemblers.specs.Facts.{distantRows, distant-end, distant-begin}
 use borrow.Author.Needs.{needs}
 use Rattle.cell_pair_assemblers.proofs.distant_plain.distant_plain.Statement.{statement}

@@ -2,8 +2,9 @@
 use Prim.Native.Nat.{_+_, _*_}
 use native.Mathlib.Omega.{arith}
 use lib.Ieee as Ieee
-use Rattle.cell_pair_assemblers.specs.Lent.{distant}
-use Rattle.cell_pair_assemblers.specs.Facts.{distant-test-table, distant-trial-table, distant-kernel, distant-more, small-kernel, distant-trial-geometry, distant-pair, plain-reads, both-three, added-three, table-three}
+use Rattle.lent_numbers.specs.Lent.{distant}
+use Rattle.lent_numbers.specs.Sizes.{small-kernel}
+use Rattle.cell_pair_assemblers.specs.Facts.{distant-test-table, distant-trial-table, distant-kernel, distant-more, distant-trial-geometry, distant-pair, plain-reads, both-three, added-three, table-three}
 use Rattle.integrands.specs.Columns.{held-added}
 use Rattle.integrands.specs.ValueFacts.{plain-value}
 use borrow.Author.Needs.{needs}

@@ -9,10 +9,11 @@ use borrow.Author.Tests.{eq-eqb}
 use Rattle.lists.specs.Bool.{_or_, or-left, or-right, true≢false}
 use Rattle.integrands.specs.declared.Geometry.{Geometry}
 use Rattle.integrands.specs.declared.Term.{Term}
-use Rattle.integrands.specs.Floats.{_⊕_, _⊗_}
+use Rattle.numbers.specs.Floats.{_⊕_, _⊗_}
 use Rattle.integrands.specs.Terms.{kindOf}
 use Rattle.integrands.specs.Values.{termValue}
-use Rattle.integrands.specs.ValueFacts.{coefficient, factored, kind-outer, term-factored}
+use Rattle.integrands.specs.ValueFacts.{kind-outer, term-factored}
+use Rattle.integrands.specs.Parts.{coefficient, factored}
 use Rattle.cell_pair_assemblers.specs.Facts.{weighed, added-as, both-three, added-three, table-three}
 use borrow.Author.Needs.{needs}
 use Rattle.cell_pair_assemblers.proofs.points.add_terms.Statement.{statement}

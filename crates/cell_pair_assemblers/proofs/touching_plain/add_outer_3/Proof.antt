@@ -6,8 +6,8 @@ use native.Mathlib.Omega.{arith}
 use lib.Ieee.{Float}
 use Rattle.lists.specs.Maps.{mapped-at}
 use lib.Ieee as Ieee
-use Rattle.integrands.specs.Floats.{_⊕_, _⊗_}
-use Rattle.integrands.specs.ValueFacts.{factored}
+use Rattle.numbers.specs.Floats.{_⊕_, _⊗_}
+use Rattle.integrands.specs.Parts.{factored}
 use Rattle.table.specs.Rows.{tableRow}
 use Rattle.integrands.specs.Columns.{table-reach, Added, added-none, added-turn}
 use borrow.Author.Needs.{needs}

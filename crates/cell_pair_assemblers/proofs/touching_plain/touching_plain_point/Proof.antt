@@ -2,8 +2,9 @@
 use Prim.Native.Nat.{_*_}
 use native.Mathlib.Omega.{arith}
 use lib.Ieee as Ieee
-use Rattle.cell_pair_assemblers.specs.Lent.{touching}
-use Rattle.cell_pair_assemblers.specs.Facts.{touching-test-table, touching-trial-table, touching-kernel, touching-more, small-kernel, touching-geometry, plain-reads, both-three, added-three, table-three}
+use Rattle.lent_numbers.specs.Lent.{touching}
+use Rattle.lent_numbers.specs.Sizes.{small-kernel}
+use Rattle.cell_pair_assemblers.specs.Facts.{touching-test-table, touching-trial-table, touching-kernel, touching-more, touching-geometry, plain-reads, both-three, added-three, table-three}
 use Rattle.integrands.specs.Columns.{held-added}
 use Rattle.integrands.specs.ValueFacts.{plain-value}
 use borrow.Author.Needs.{needs}

@@ -1,7 +1,7 @@
 -- `function::colouring::colour_cells` meets its contract. The invariant: the first i colours are stored; a turn is `filled-more`. Assumes nothing.
 use Prim.Native.Nat.{_-_, _≤_}
 use native.Mathlib.Omega.{arith}
-use Rattle.grid.specs.Cells.{share}
+use Rattle.grid.specs.Shape.{share}
 use Rattle.function.specs.ColoursFacts.{Filled, filled-none, filled-more, filled-all, front-le, smallest-le}
 use borrow.Author.Needs.{needs}
 use Rattle.function.proofs.colouring.colour_cells.Statement.{statement}

@@ -4,7 +4,7 @@ use Prim.Native.Nat.{_-_, _≤_}
 use native.Mathlib.Omega.{arith}
 use mathlib.Core.Path.{_≡_, sym, _∙_}
 use mathlib.Core.Logic.{⊎-elim}
-use Rattle.grid.specs.Cells.{share}
+use Rattle.grid.specs.Shape.{share}
 use Rattle.function.specs.ColoursFacts.{Marked, mark-none, mark-yes, mark-no}
 use borrow.Author.Needs.{needs}
 use Rattle.function.proofs.colouring.used_colours.Statement.{statement}

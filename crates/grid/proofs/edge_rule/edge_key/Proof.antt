@@ -1,5 +1,6 @@
 -- `grid::edge_rule::edge_key` meets its contract: the two reads are the ends of local edge place % 3 of cell place / 3. Assumes nothing.
-use Rattle.grid.specs.Facts.{below-at}
+use Rattle.numbers.specs.Ranges.{below-at}
+use Rattle.grid.specs.Mesh.{mostVertices}
 use borrow.Author.Needs.{needs}
 use Rattle.grid.proofs.edge_rule.edge_key.Statement.{statement}
 use Rattle.grid.proofs.edge_rule.edge_key.Tie as tie
@@ -32,7 +33,7 @@ shared-slice-read-pair-key-2 : tie.Need-shared-slice-read-pair-key-2
 shared-slice-read-pair-key-2 c = search needs
 
 pair-key-requires : tie.Need-pair-key-requires
-pair-key-requires c κs = let below = below-at _ 4096 (c .before .before .before .before .before .pre .1) in (below _ (search needs), below _ (search needs))
+pair-key-requires c κs = let below = below-at _ mostVertices (c .before .before .before .before .before .pre .1) in (below _ (search needs), below _ (search needs))
 
 returns : tie.Need-returns
 returns c = rw (← c .before .before .before .second-end .ensures .0, ← c .before .before .before .before .first-end .ensures .0) (c .pair-key .ensures)

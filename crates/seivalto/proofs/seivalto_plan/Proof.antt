@@ -1,0 +1,66 @@
+-- `seivalto::seivalto_plan` meets its contract: the planning that it calls is that of the elements and the integrand which the C forms stand for. Assumes nothing.
+use borrow.Author.Needs.{needs}
+use Rattle.seivalto.proofs.seivalto_plan.Statement.{statement}
+use Rattle.seivalto.proofs.seivalto_plan.Tie as tie
+
+element-of-requires : tie.Need-element-of-requires
+element-of-requires c κs = search needs
+
+element-of-requires-2 : tie.Need-element-of-requires-2
+element-of-requires-2 c κs = search needs
+
+integrand-of-requires : tie.Need-integrand-of-requires
+integrand-of-requires c κs = search needs
+
+plan-requires : tie.Need-plan-requires
+plan-requires c κs = search needs
+
+c-planned-requires : tie.Need-c-planned-requires
+c-planned-requires c κs = search needs
+
+same-length : tie.Need-same-length
+same-length c = search needs
+
+same-length-2 : tie.Need-same-length-2
+same-length-2 c = search needs
+
+same-length-3 : tie.Need-same-length-3
+same-length-3 c = search needs
+
+same-length-4 : tie.Need-same-length-4
+same-length-4 c = search needs
+
+same-length-5 : tie.Need-same-length-5
+same-length-5 c = search needs
+
+same-length-6 : tie.Need-same-length-6
+same-length-6 c = search needs
+
+same-length-7 : tie.Need-same-length-7
+same-length-7 c = search needs
+
+returns : tie.Need-returns
+returns c =
+    let planned = c .before .before .before .before .before .before .before .before .before .before .before .before .before .before .before in
+    let answer = planned .plan .ensures in
+    let formed = planned .before .before .before .before .before .before .before .before in
+    rw (← formed .before .before .element-of .ensures, ← formed .before .element-of2 .ensures, ← formed .integrand-of .ensures, ← answer .0)
+    (c .c-planned .ensures, answer .1)
+
+pub seivalto-plan-spec : {M : Type 1} → statement M
+seivalto-plan-spec =
+    tie.close
+    (tie.spec
+    element-of-requires
+    element-of-requires-2
+    integrand-of-requires
+    plan-requires
+    c-planned-requires
+    same-length
+    same-length-2
+    same-length-3
+    same-length-4
+    same-length-5
+    same-length-6
+    same-length-7
+    returns)

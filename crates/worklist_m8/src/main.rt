@@ -1,4 +1,0 @@
-// `worklist` on the job of jobs/m8.txt.
-fn main() {
-    worklist_io::answer_standard_input();
-}

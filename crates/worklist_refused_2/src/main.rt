@@ -1,4 +1,0 @@
-// `worklist` on the job of jobs/refused_2.txt.
-fn main() {
-    worklist_io::answer_standard_input();
-}

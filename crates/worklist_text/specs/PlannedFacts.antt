@@ -1,0 +1,200 @@
+-- What the text of a planning rests on: its length, what planning leaves, and that the lists' lengths are the only thing of them that it reads.
+-- Assumes nothing.
+use Prim.Native.Nat.{ℕ, zero, suc, _*_, _≤_, _<_, min}
+use native.Mathlib.Nat.{mul-le-mul}
+use native.Mathlib.Omega.{arith}
+use mathlib.Core.Path.{_≡_, refl, sym, ap, _∙_}
+use mathlib.Core.Bool.{Bool, true, false}
+use mathlib.Core.List.{List, [], _∷_, _++_}
+use lib.ListN.{length, take, replicate, length-replicate}
+use lib.Seq.{length-take-le}
+use borrow.Author.Tests.{eq-eqb}
+use Rattle.lists.specs.Bool.{every-of, _also_, end}
+use Rattle.lists.specs.Range.{AllIn, all-in-append}
+use Rattle.lists.specs.Refusals.{Check, check, unless, refusal}
+use Rattle.lists.specs.Writes.{numbers, Wrote, Room}
+use Rattle.grid.specs.Mesh.{meshChecks}
+use Rattle.function.specs.Elements.{mostDim, dim, dimsRight}
+use Rattle.integrands.specs.Terms.{integrandRight}
+use Rattle.cell_pairs.specs.Patterns.{patternsRight}
+use Rattle.cell_pairs.specs.WorkList.{workList}
+use Rattle.pair_counts.specs.WorkRecords.{Distant, Touching}
+use Rattle.pair_counts.specs.WorkRecordsFacts.{distant-each, touching-each}
+use Rattle.pair_counts.specs.Counting.{length-work}
+use Rattle.boundary_assemblers.specs.declared.PlanNumbers as Declared
+use Rattle.boundary_assemblers.specs.declared.Planned.{Planned}
+use Rattle.boundary_assemblers.specs.declared.Planned.the-variants.{Ready, Refused}
+use Rattle.boundary_assemblers.specs.Forms.{numbersOf, plannedOf}
+use Rattle.plans.specs.Planning.{PlanNumbers, ready, refused, Planning, Lists, listsFor, batchRight, lengthsRight, planRefusal, planAnswer, plan, planLists, writtenLists, workRecords}
+use Rattle.plans.specs.Accepted.{accepted, counted, ready-is}
+use Rattle.planning.specs.Facts.{dims-small}
+use Rattle.job.specs.Job.{mostWorklistCells}
+use Rattle.worklist_text.specs.Text.{refusedLine}
+use Rattle.worklist_text.specs.Lines.{linesOf}
+use Rattle.worklist_text.specs.TextFacts.{Short, lines-short, lines-flat, refused-short}
+use Rattle.worklist_text.specs.PlannedText.{answerText, plannedText, rightText, mostText}
+
+-- ---- refusals
+
+-- checks that follow the same checks
+refusal-after : (cs ds es : List Check) → refusal ds ≡ refusal es → refusal (cs ++ ds) ≡ refusal (cs ++ es)
+unfolding refusal
+refusal-after [] ds es e = e
+refusal-after (c ∷ cs) ds es e = ap (unless (c .passes) (c .number)) (refusal-after cs ds es e)
+
+-- checks 4 to 8, where check 8 says b
+abbrev fromFour : Planning → Bool → List Check
+fromFour x b =
+    check 4 (dimsRight (x .test) (x .trial))
+    ∷ check 5 (batchRight (x .batch))
+    ∷ check 6 (integrandRight (x .integrand))
+    ∷ check 7 (patternsRight (x .mesh .cells) (x .mesh .cellVertices))
+    ∷ check 8 b
+    ∷ []
+
+-- whether the lists are as long as they should be
+abbrev pub sized : Planning → Lists → Bool
+sized x l = lengthsRight (x .mesh .cells) (x .test) (x .trial) l
+
+-- of the lists planning reads the lengths alone, and those where the dims are right
+pub same-refusal : (x : Planning) (l l′ : Lists) → (dimsRight (x .test) (x .trial) ≡ true → sized x l ≡ sized x l′) → planRefusal x l ≡ planRefusal x l′
+unfolding planRefusal refusal unless
+same-refusal x l l′ h =
+    refusal-after (meshChecks (x .mesh)) (fromFour x (sized x l)) (fromFour x (sized x l′)) (go (dimsRight (x .test) (x .trial)) h)
+  where
+    later : Bool → ℕ
+    later b =
+        refusal
+        (check 5 (batchRight (x .batch))
+        ∷ check 6 (integrandRight (x .integrand))
+        ∷ check 7 (patternsRight (x .mesh .cells) (x .mesh .cellVertices))
+        ∷ check 8 b
+        ∷ [])
+
+    go : (b : Bool) → (b ≡ true → sized x l ≡ sized x l′) → unless b 4 (later (sized x l)) ≡ unless b 4 (later (sized x l′))
+    go true k = ap later (k refl)
+    go false k = refl
+
+-- lists of the right lengths
+pub sized-by : (x : Planning) (l : Lists)
+    → length (l .testDofs) ≡ x .mesh .cells * dim (x .test)
+    → length (l .trialDofs) ≡ x .mesh .cells * dim (x .trial)
+    → length (l .testColours) ≡ x .mesh .cells
+    → length (l .trialColours) ≡ x .mesh .cells
+    → length (l .testOwners) ≡ 3 * (x .mesh .cells * dim (x .test))
+    → length (l .trialOwners) ≡ 3 * (x .mesh .cells * dim (x .trial))
+    → length (l .work) ≡ 3 * (x .mesh .cells * x .mesh .cells)
+    → sized x l ≡ true
+unfolding lengthsRight
+sized-by x l e₁ e₂ e₃ e₄ e₅ e₆ e₇ =
+    every-of (eq-eqb _ _ e₁ also eq-eqb _ _ e₂ also eq-eqb _ _ e₃ also eq-eqb _ _ e₄ also eq-eqb _ _ e₅ also eq-eqb _ _ e₆ also eq-eqb _ _ e₇ also end)
+
+pub sized-for : (x : Planning) → sized x (listsFor x) ≡ true
+sized-for x =
+    let zeros : (n : ℕ) → length {A = ℕ} (replicate n 0) ≡ n = λ n. length-replicate n 0 in
+    let C = x .mesh .cells in
+    sized-by x (listsFor x) (zeros (C * dim (x .test))) (zeros (C * dim (x .trial))) (zeros C) (zeros C) (zeros (3 * (C * dim (x .test)))) (zeros (3 * (C * dim (x .trial)))) (zeros (3 * (C * C)))
+
+-- ---- lists whose lengths are made with dims cut to the most
+
+-- they fit
+pub few-places : (C d : ℕ) → C ≤ mostWorklistCells → d ≤ mostDim → C * d ≤ mostWorklistCells * mostDim
+few-places C d h k = mul-le-mul h k
+
+pub few-pairs : (C : ℕ) → C ≤ mostWorklistCells → C * C ≤ mostWorklistCells * mostWorklistCells
+few-pairs C h = mul-le-mul h h
+
+-- the first n numbers of a list that has as many
+pub took : (n : ℕ) (xs : List ℕ) {m : ℕ} → n ≤ length xs → n ≡ m → length (take n xs) ≡ m
+took n xs h e = length-take-le n xs h ∙ e
+
+-- the text is the same as with lists of the right lengths
+short-text : (x : Planning) (l : Lists)
+    → length (l .testDofs) ≡ x .mesh .cells * min mostDim (dim (x .test))
+    → length (l .trialDofs) ≡ x .mesh .cells * min mostDim (dim (x .trial))
+    → length (l .testColours) ≡ x .mesh .cells
+    → length (l .trialColours) ≡ x .mesh .cells
+    → length (l .testOwners) ≡ 3 * (x .mesh .cells * min mostDim (dim (x .test)))
+    → length (l .trialOwners) ≡ 3 * (x .mesh .cells * min mostDim (dim (x .trial)))
+    → length (l .work) ≡ 3 * (x .mesh .cells * x .mesh .cells)
+    → plannedText x l ≡ rightText x
+unfolding plannedText
+short-text x l e₁ e₂ e₃ e₄ e₅ e₆ e₇ = ap (λ (v : ℕ). answerText v x) (same-refusal x l (listsFor x) (λ h. right (dims-small (x .test) (x .trial) h) ∙ sym (sized-for x)))
+  where
+    right : (dim (x .test) ≤ mostDim) × (dim (x .trial) ≤ mostDim) → sized x l ≡ true
+    right h =
+        let t : min mostDim (dim (x .test)) ≡ dim (x .test) = omega arith in
+        let r : min mostDim (dim (x .trial)) ≡ dim (x .trial) = omega arith in
+        sized-by x l (rw t at e₁) (rw r at e₂) e₃ e₄ (rw t at e₅) (rw r at e₆) e₇
+
+pub short-wrote : (x : Planning) (l : Lists) {xs ys : List ℕ} {r : ℕ} → Wrote numbers xs ys 0 r (plannedText x l)
+    → length (l .testDofs) ≡ x .mesh .cells * min mostDim (dim (x .test))
+    → length (l .trialDofs) ≡ x .mesh .cells * min mostDim (dim (x .trial))
+    → length (l .testColours) ≡ x .mesh .cells
+    → length (l .trialColours) ≡ x .mesh .cells
+    → length (l .testOwners) ≡ 3 * (x .mesh .cells * min mostDim (dim (x .test)))
+    → length (l .trialOwners) ≡ 3 * (x .mesh .cells * min mostDim (dim (x .trial)))
+    → length (l .work) ≡ 3 * (x .mesh .cells * x .mesh .cells)
+    → Wrote numbers xs ys 0 r (rightText x)
+short-wrote x l w e₁ e₂ e₃ e₄ e₅ e₆ e₇ = rw (short-text x l e₁ e₂ e₃ e₄ e₅ e₆ e₇) at w
+
+-- ---- what planning answers
+
+answer-refused : (v n : ℕ) (p : PlanNumbers) → planAnswer v p ≡ refused n → (v ≡ n) × (0 < n)
+answer-refused zero n p e = let z : _≡_ {A = ℕ} 0 1 = cc in absurd (omega arith)
+answer-refused (suc v) n p e = let same : suc v ≡ n = cc in (same, omega arith)
+
+-- it is ready: the text is the lines of the work list that it leaves
+pub ready-text : (x : Planning) (l : Lists) (p : PlanNumbers) → plan x l ≡ ready p → plannedText x l ≡ linesOf (planLists x l .work)
+unfolding plan plannedText planLists writtenLists
+ready-text x l p e = rw (ready-is e .none) (sym (lines-flat (workRecords x)))
+
+-- it refuses: the text says which
+pub refused-text : (x : Planning) (l : Lists) (n : ℕ) → plan x l ≡ refused n → plannedText x l ≡ refusedLine n
+unfolding plan plannedText
+refused-text x l n e = let r = answer-refused (planRefusal x l) n _ e in go n (r .1) (r .0)
+  where
+    go : (m : ℕ) → 0 < m → planRefusal x l ≡ m → answerText (planRefusal x l) x ≡ refusedLine m
+    go zero h same = absurd (omega arith)
+    go (suc m) h same = rw same
+
+-- ---- how long the text is
+
+all-in-weaken : {A : Type 0} (P Q : A → Type 0) → ((a : A) → P a → Q a) → (xs : List A) → AllIn P xs → AllIn Q xs
+unfolding AllIn
+all-in-weaken P Q f [] h = tt
+all-in-weaken P Q f (a ∷ xs) h = (f a (h .0), all-in-weaken P Q f xs (h .1))
+
+records-short : (x : Planning) → x .mesh .cells ≤ mostWorklistCells → AllIn Short (workRecords x)
+unfolding workList
+records-short x h =
+    all-in-append Short _ _
+    (all-in-weaken (Distant (x .mesh)) Short (λ r d. record { pattern = omega (arith, d .marked); test = omega (arith, d .testCell); trial = omega (arith, d .trialCell) }) _ (distant-each (x .mesh) (x .batch) _ _))
+    (all-in-weaken (Touching (x .mesh)) Short (λ r t. record { pattern = omega (arith, t .known); test = omega (arith, t .testCell); trial = omega (arith, t .trialCell) }) _ (touching-each (x .mesh)))
+
+-- of few cells: each record has at most 12 bytes
+pub text-short : (x : Planning) (l : Lists) → x .mesh .cells ≤ mostWorklistCells → length (plannedText x l) ≤ mostText
+unfolding plannedText
+text-short x l h = go (planRefusal x l) refl
+  where
+    go : (v : ℕ) → planRefusal x l ≡ v → length (answerText v x) ≤ mostText
+    go zero e =
+        let pairs : x .mesh .cells * x .mesh .cells ≤ mostWorklistCells * mostWorklistCells = mul-le-mul h h in
+        omega (arith, lines-short (workRecords x) (records-short x h), length-work (x .mesh) (x .batch) _ _ (counted (accepted x l e)))
+    go (suc n) e = omega (arith, refused-short (suc n))
+
+-- what planning answers and leaves, ready or refused
+module _ (x : Planning) (l : Lists) {r : Planned} (answers : plannedOf r ≡ plan x l) where
+  pub ready-lines : {l′ : Lists} {p : Declared.PlanNumbers} → l′ ≡ planLists x l → r ≡ Ready p → linesOf (l′ .work) ≡ plannedText x l
+  ready-lines {l′} {p} leaves e = ap (λ (k : Lists). linesOf (k .work)) leaves ∙ sym (ready-text x l (numbersOf p) (sym answers ∙ ap plannedOf e))
+
+  pub refused-line : {n : ℕ} → r ≡ Refused n → refusedLine n ≡ plannedText x l
+  refused-line {n} e = sym (refused-text x l n (sym answers ∙ ap plannedOf e))
+
+-- room for the text of few cells
+pub room-for : (x : Planning) (l : Lists) (text : List ℕ) {rs : List ℕ} → rs ≡ plannedText x l → x .mesh .cells ≤ mostWorklistCells → mostText ≤ length text → Room numbers text 0 rs
+room-for x l text e small long = rw e (omega (arith, text-short x l small))
+
+-- room for a refusal
+pub refused-room : (n : ℕ) (text : List ℕ) → mostText ≤ length text → Room numbers text 0 (refusedLine n)
+refused-room n text long = omega (arith, refused-short n)

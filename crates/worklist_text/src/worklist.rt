@@ -1,0 +1,255 @@
+// From the bytes of a job to the text that `worklist` prints.
+use crate::text::put_lines;
+use crate::text::put_refused;
+use boundary_assemblers::Planned;
+use function::Element;
+use function::MOST_DIM;
+use integrands::Integrand;
+use integrands::Term;
+use job::JobNumbers;
+use job::JobRead;
+use job::MOST_WORKLIST_CELLS;
+use job::read_job;
+use numbers::wide;
+use planning::plan;
+use work_records::WIDTH;
+ghost use mathlib.Core.Path.{_≡_};
+ghost use Prim.Native.Nat.{_*_, _≤_, min};
+ghost use lib.ListN.{length, take};
+ghost use Rattle.lists.specs.Writes.{numbers, Wrote};
+ghost use Rattle.plans.specs.Planning.{meshOf, planningOf, listsOf};
+ghost use Rattle.function.specs.Elements.{mostDim, dim};
+ghost use Rattle.job.specs.Job.{mostWorklistCells};
+ghost use Rattle.worklist_text.specs.Text.{bareZero, numbersPlanning, worklist, refusedLine};
+ghost use Rattle.worklist_text.specs.PlannedText.{plannedText, rightText, mostText, Arrays, Printed};
+
+// The most cells of a job, places of a DOF list, and pairs of cells.
+const CELLS: usize = MOST_WORKLIST_CELLS as usize;
+
+const DOFS: usize = CELLS * MOST_DIM;
+
+const PAIRS: usize = CELLS * CELLS;
+
+// The most bytes of the text: a line of at most 12 for each pair.
+pub const MOST_TEXT: usize = 12 * PAIRS;
+
+// Plans with one bare term of kind 0, and writes the work list's lines, or what is refused.
+fn put_planned(
+    cells: u32,
+    vertices: u32,
+    edges: u32,
+    cell_vertices: &[u32],
+    cell_edges: &[u32],
+    test: Element,
+    trial: Element,
+    batch: u32,
+    test_dofs: &mut [u32],
+    trial_dofs: &mut [u32],
+    test_colours: &mut [u32],
+    trial_colours: &mut [u32],
+    test_owners: &mut [u32],
+    trial_owners: &mut [u32],
+    work: &mut [u32],
+    text: &mut [u8],
+) -> usize
+    requires { ⌜ (cells ≤ mostWorklistCells) × (mostText ≤ length (now text)) ⌝ }
+    ensures { λ r. ⌜ Wrote numbers (now (text .entry)) (now (text .exit)) 0 r
+        (plannedText (planningOf (meshOf cells vertices edges (now («cell_vertices» .entry)) (now («cell_edges» .entry))) test trial batch bareZero)
+        (listsOf (now («test_dofs» .entry)) (now («trial_dofs» .entry)) (now («test_colours» .entry)) (now («trial_colours» .entry)) (now («test_owners» .entry)) (now («trial_owners» .entry)) (now (work .entry)))) ⌝ }
+{
+    let integrand = Integrand {
+        terms: 1,
+        first: Term::Bare(0),
+        second: Term::Bare(0),
+    };
+    let planned = plan(
+        cells,
+        vertices,
+        edges,
+        cell_vertices,
+        cell_edges,
+        test,
+        trial,
+        batch,
+        integrand,
+        test_dofs,
+        trial_dofs,
+        test_colours,
+        trial_colours,
+        test_owners,
+        trial_owners,
+        work,
+    );
+    match planned {
+        Planned::Ready(_) => put_lines(work, text, 0),
+        Planned::Refused(n) => put_refused(text, 0, n),
+    }
+}
+
+// A dim for the length of a list: one above the most is refused before the lists' lengths are read.
+fn short_dim(element: Element) -> usize
+    ensures { λ r. ⌜ r ≡ min mostDim (dim element) ⌝ }
+{
+    let d = element.dim();
+    if d < MOST_DIM { d } else { MOST_DIM }
+}
+
+// The length of a DOF list.
+fn dof_places(cells: u32, element: Element) -> usize
+    requires { ⌜ cells ≤ mostWorklistCells ⌝ }
+    ensures { λ r. ⌜ (r ≡ cells * min mostDim (dim element)) × (r ≤ mostWorklistCells * mostDim) ⌝ }
+{
+    wide(cells) * short_dim(element)
+}
+
+// The pairs of cells.
+fn pair_count(cells: u32) -> usize
+    requires { ⌜ cells ≤ mostWorklistCells ⌝ }
+    ensures { λ r. ⌜ (r ≡ cells * cells) × (r ≤ mostWorklistCells * mostWorklistCells) ⌝ }
+{
+    let c = wide(cells);
+    c * c
+}
+
+// The same with lists of the right lengths, in arrays that are long enough for the most cells.
+fn put_sized(
+    cells: u32,
+    vertices: u32,
+    edges: u32,
+    cell_vertices: &[u32],
+    cell_edges: &[u32],
+    test: Element,
+    trial: Element,
+    batch: u32,
+    test_dofs: &mut [u32],
+    trial_dofs: &mut [u32],
+    test_colours: &mut [u32],
+    trial_colours: &mut [u32],
+    test_owners: &mut [u32],
+    trial_owners: &mut [u32],
+    work: &mut [u32],
+    text: &mut [u8],
+) -> usize
+    requires { ⌜ (cells ≤ mostWorklistCells) × (mostText ≤ length (now text)) ⌝ }
+    requires { ⌜ Arrays (now «test_dofs») (now «trial_dofs») (now «test_colours») (now «trial_colours») (now «test_owners») (now «trial_owners») (now work) ⌝ }
+    ensures { λ r. ⌜ Wrote numbers (now (text .entry)) (now (text .exit)) 0 r
+        (rightText (planningOf (meshOf cells vertices edges (now («cell_vertices» .entry)) (now («cell_edges» .entry))) test trial batch bareZero)) ⌝ }
+{
+    let c = wide(cells);
+    let rows = dof_places(cells, test);
+    let columns = dof_places(cells, trial);
+    let test_places = 3 * rows;
+    let trial_places = 3 * columns;
+    let places = WIDTH * pair_count(cells);
+    put_planned(
+        cells,
+        vertices,
+        edges,
+        cell_vertices,
+        cell_edges,
+        test,
+        trial,
+        batch,
+        &mut test_dofs[..rows],
+        &mut trial_dofs[..columns],
+        &mut test_colours[..c],
+        &mut trial_colours[..c],
+        &mut test_owners[..test_places],
+        &mut trial_owners[..trial_places],
+        &mut work[..places],
+        text,
+    )
+}
+
+// The same with arrays of its own.
+fn put_mesh(
+    cells: u32,
+    vertices: u32,
+    edges: u32,
+    cell_vertices: &[u32],
+    cell_edges: &[u32],
+    test: Element,
+    trial: Element,
+    batch: u32,
+    text: &mut [u8],
+) -> usize
+    requires { ⌜ (cells ≤ mostWorklistCells) × (mostText ≤ length (now text)) ⌝ }
+    ensures { λ r. ⌜ Wrote numbers (now (text .entry)) (now (text .exit)) 0 r
+        (rightText (planningOf (meshOf cells vertices edges (now («cell_vertices» .entry)) (now («cell_edges» .entry))) test trial batch bareZero)) ⌝ }
+{
+    let mut test_dofs = [0u32; DOFS];
+    let mut trial_dofs = [0u32; DOFS];
+    let mut test_colours = [0u32; CELLS];
+    let mut trial_colours = [0u32; CELLS];
+    let mut test_owners = [0u32; 3 * DOFS];
+    let mut trial_owners = [0u32; 3 * DOFS];
+    let mut work = [0u32; WIDTH * PAIRS];
+    put_sized(
+        cells,
+        vertices,
+        edges,
+        cell_vertices,
+        cell_edges,
+        test,
+        trial,
+        batch,
+        &mut test_dofs,
+        &mut trial_dofs,
+        &mut test_colours,
+        &mut trial_colours,
+        &mut test_owners,
+        &mut trial_owners,
+        &mut work,
+        text,
+    )
+}
+
+// The same for the numbers of a job, whose vertices and edges stand at the front of these lists.
+fn put_numbers(job: JobNumbers, vertex_list: &[u32], edge_list: &[u32], text: &mut [u8]) -> usize
+    requires { ⌜ (job .cells ≤ mostWorklistCells) × (mostText ≤ length (now text)) ⌝ }
+    requires { ⌜ (3 * mostWorklistCells ≤ length (now «vertex_list»)) × (3 * mostWorklistCells ≤ length (now «edge_list»)) ⌝ }
+    ensures { λ r. ⌜ Wrote numbers (now (text .entry)) (now (text .exit)) 0 r
+        (rightText (numbersPlanning job (take (3 * job .cells) (now («vertex_list» .entry))) (take (3 * job .cells) (now («edge_list» .entry))))) ⌝ }
+{
+    let n = 3 * wide(job.cells);
+    put_mesh(
+        job.cells,
+        job.vertices,
+        job.edges,
+        &vertex_list[..n],
+        &edge_list[..n],
+        job.test,
+        job.trial,
+        job.batch,
+        text,
+    )
+}
+
+// What `worklist` prints for these bytes, by way of lists with room for the most cells.
+fn put_job(bytes: &[u8], vertex_list: &mut [u32], edge_list: &mut [u32], text: &mut [u8]) -> usize
+    requires { ⌜ (3 * mostWorklistCells ≤ length (now «vertex_list»)) × (3 * mostWorklistCells ≤ length (now «edge_list»)) ⌝ }
+    requires { ⌜ mostText ≤ length (now text) ⌝ }
+    ensures { λ r. ⌜ Wrote numbers (now (text .entry)) (now (text .exit)) 0 r (worklist (now (bytes .entry))) ⌝ }
+{
+    let read = read_job(bytes, true, vertex_list, edge_list);
+    match read {
+        JobRead::Whole(job) => put_numbers(job, vertex_list, edge_list, text),
+        JobRead::Refused(n) => put_refused(text, 0, n),
+    }
+}
+
+// Writes `refused n`: the first r bytes of the text.
+pub fn refused_text(n: u32, text: &mut [u8; MOST_TEXT]) -> usize
+    ensures { λ r. ⌜ Printed (now (text .entry)) (now (text .exit)) r (refusedLine n) ⌝ }
+{
+    put_refused(text, 0, n)
+}
+
+// Writes what `worklist` prints for these bytes: the first r bytes of the text.
+pub fn worklist_text(bytes: &[u8], text: &mut [u8; MOST_TEXT]) -> usize
+    ensures { λ r. ⌜ Printed (now (text .entry)) (now (text .exit)) r (worklist (now (bytes .entry))) ⌝ }
+{
+    let mut vertex_list = [0u32; 3 * CELLS];
+    let mut edge_list = [0u32; 3 * CELLS];
+    put_job(bytes, &mut vertex_list, &mut edge_list, text)
+}
