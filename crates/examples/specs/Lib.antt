@@ -4,7 +4,7 @@ use mathlib.Core.List.{List, [], _∷_}
 use Rattle.lists.specs.Examples.{Example, Agree, no-more, _and-also_}
 use Rattle.function.specs.Examples.{M1-colours, M1-dofs, M2-dofs, M3-colours, M2-owners, M2-count, M1-colours-holds, M1-dofs-holds, M2-dofs-holds, M3-colours-holds, M2-owners-holds, M2-count-holds, by-edges, two-an-edge, two-owners, by-edges-holds, two-an-edge-holds, two-owners-holds}
 use Rattle.integrands.specs.Examples.{F3, F4, F3-holds, F4-holds, double, normals, factor, two, one, double-holds, normals-hold, factor-holds, two-holds, one-holds}
-use Rattle.lent_numbers.specs.Examples.{F1, F2, F1-rounded, F2-rounded, F1-holds, F2-holds, F1-rounded-holds, F2-rounded-holds, two-points, four-pairs, two-points-hold, four-pairs-hold}
+use Rattle.lent_numbers.specs.Examples.{F1, F2, F1-rounded, F2-rounded, F1-holds, F2-holds, F1-rounded-holds, F2-rounded-holds, two-points, four-pairs, point-order, two-points-hold, four-pairs-hold, point-order-holds}
 use Rattle.scatter.specs.Examples.{added, rows-columns, values, added-holds, rows-columns-hold, values-hold}
 use Rattle.cell_pairs.specs.Examples.{M4-records, M5-records, M7-records, M4-records-holds, M5-records-holds, M7-records-holds, patterns, patterns-hold}
 use Rattle.plans.specs.Examples.{M-planned, M-sizes, M6-distant, M6-touching, M6-sum, M7-refused, M7-planned, M7-work, M7-work-holds, M8-batch, M8-cells, M-planned-holds, M-sizes-holds, M6-distant-holds, M6-touching-holds, M6-sum-holds, M7-refused-holds, M7-planned-holds, M8-batch-holds, M8-cells-holds}
@@ -56,7 +56,7 @@ abbrev pub more : List Example
 more =
     M4-records ∷ M5-records ∷ M-planned ∷ M-sizes ∷ M7-turned-text ∷ M7-twice-text ∷ M8-batch-text
     ∷ M4-short ∷ M4-longer ∷ job-large ∷ M4-read ∷ M4-vertices ∷ M4-edges ∷ short-refused ∷ short-vertices ∷ large-limited ∷ large-free ∷ M2-owners ∷ M2-count
-    ∷ F1-rounded ∷ F2-rounded ∷ M7-records ∷ by-edges ∷ two-an-edge ∷ two-owners ∷ patterns ∷ double ∷ normals ∷ factor ∷ two ∷ one ∷ two-points ∷ four-pairs
+    ∷ F1-rounded ∷ F2-rounded ∷ M7-records ∷ by-edges ∷ two-an-edge ∷ two-owners ∷ patterns ∷ double ∷ normals ∷ factor ∷ two ∷ one ∷ two-points ∷ four-pairs ∷ point-order
     ∷ added ∷ rows-columns ∷ values ∷ []
 
 pub more-hold : Agree more
@@ -94,6 +94,7 @@ more-hold =
     and-also one-holds
     and-also two-points-hold
     and-also four-pairs-hold
+    and-also point-order-holds
     and-also added-holds
     and-also rows-columns-hold
     and-also values-hold

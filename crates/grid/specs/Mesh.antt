@@ -8,6 +8,7 @@ use Rattle.lists.specs.Bool.{_and_, _or_, every, iff}
 use Rattle.lists.specs.Bounded.{all}
 use Rattle.lists.specs.Refusals.{Check, check}
 use Rattle.numbers.specs.Ranges.{within, allBelow}
+use Rattle.grid.specs.declared.Sizes.{Sizes}
 use Rattle.grid.specs.Shape.{entity, firstEnd, secondEnd, sameTwo}
 
 -- C is 1 to 2,048, V is 3 to 4,096, E is 3 to 6,144
@@ -27,6 +28,14 @@ pub record Mesh : Type 0 where
   pub edges : ℕ
   pub cellVertices : List ℕ
   pub cellEdges : List ℕ
+
+-- from the arguments of a call
+abbrev pub sizesOf : ℕ → ℕ → ℕ → Sizes
+sizesOf cells vertices edges = record { cells = cells; vertices = vertices; edges = edges }
+
+abbrev pub meshOf : Sizes → List ℕ → List ℕ → Mesh
+meshOf s cellVertices cellEdges =
+    record { cells = s .cells; vertices = s .vertices; edges = s .edges; cellVertices = cellVertices; cellEdges = cellEdges }
 
 -- no vertex stands twice in cell i
 unfoldable pub distinct : List ℕ → ℕ → Bool

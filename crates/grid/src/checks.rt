@@ -2,6 +2,7 @@
 use crate::MOST_CELLS;
 use crate::MOST_EDGES;
 use crate::MOST_VERTICES;
+use crate::Sizes;
 use crate::edge_rule::keeps_edge_rule;
 use numbers::all_below;
 use numbers::is_within;
@@ -14,7 +15,7 @@ ghost use lib.Dec.{eqb};
 ghost use Rattle.lists.specs.Bool.{_and_, every};
 ghost use Rattle.lists.specs.Bounded.{all};
 ghost use Rattle.lists.specs.Refusals.{refusal};
-ghost use Rattle.grid.specs.Mesh.{mostCells, mostVertices, mostEdges, distinct, edgeRule, meshChecks};
+ghost use Rattle.grid.specs.Mesh.{mostCells, mostVertices, mostEdges, distinct, edgeRule, meshOf, meshChecks};
 ghost use Rattle.numbers.specs.Ranges.{within, allBelow};
 
 // Whether no vertex stands twice in the cell.
@@ -93,26 +94,14 @@ fn edges_right(cells: u32, edges: u32, cell_vertices: &[u32], cell_edges: &[u32]
 }
 
 // The number of the first of checks 1 to 3 that turns the mesh down, or 0.
-pub fn mesh_refusal(
-    cells: u32,
-    vertices: u32,
-    edges: u32,
-    cell_vertices: &[u32],
-    cell_edges: &[u32],
-) -> u32
-    ensures { λ r. ⌜ r ≡ refusal (meshChecks (record {
-      cells = cells;
-      vertices = vertices;
-      edges = edges;
-      cellVertices = now («cell_vertices» .entry);
-      cellEdges = now («cell_edges» .entry);
-    })) ⌝ }
+pub fn mesh_refusal(sizes: Sizes, cell_vertices: &[u32], cell_edges: &[u32]) -> u32
+    ensures { λ r. ⌜ r ≡ refusal (meshChecks (meshOf sizes (now («cell_vertices» .entry)) (now («cell_edges» .entry)))) ⌝ }
 {
-    if !cells_right(cells, cell_vertices) {
+    if !cells_right(sizes.cells, cell_vertices) {
         1
-    } else if !vertices_right(cells, vertices, cell_vertices) {
+    } else if !vertices_right(sizes.cells, sizes.vertices, cell_vertices) {
         2
-    } else if !edges_right(cells, edges, cell_vertices, cell_edges) {
+    } else if !edges_right(sizes.cells, sizes.edges, cell_vertices, cell_edges) {
         3
     } else {
         0

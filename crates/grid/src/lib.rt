@@ -13,3 +13,10 @@ pub const MOST_CELLS: usize = 2048;
 pub const MOST_VERTICES: usize = 4096;
 
 pub const MOST_EDGES: usize = 6144;
+
+// The numbers of cells, vertices and edges of a mesh.
+pub struct Sizes {
+    pub cells: u32,
+    pub vertices: u32,
+    pub edges: u32,
+}

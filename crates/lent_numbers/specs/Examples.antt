@@ -1,7 +1,7 @@
 -- F1 and F2 of the paper, and two examples beside them whose sums are not exact, so that they tell another order of products apart.
 -- Assumes nothing.
 use mathlib.Core.Path.{refl}
-use mathlib.Core.Bool.{false}
+use mathlib.Core.Bool.{true, false}
 use mathlib.Core.List.{List, [], _∷_, _++_}
 use lib.Ieee as Ieee
 use lib.IntN.{pos}
@@ -138,3 +138,24 @@ four-pairs =
 pub four-pairs-hold : Holds four-pairs
 unfolding opened-lent-numbers
 four-pairs-hold = refl
+
+-- the order of the points: test point 0 has the values 2^53 and 1, test point 1 has −2^53 and 0. Test points outermost, the 1 is lost beside 2^53
+abbrev pub point-order : Example
+point-order =
+    let a : Distant =
+    record {
+      testPoints = 2;
+      trialPoints = 2;
+      testWeights = 1· ∷ 1· ∷ [];
+      trialWeights = 1· ∷ 1· ∷ [];
+      testTable = 1· ∷ 1· ∷ [];
+      trialTable = 1· ∷ 1· ∷ [];
+      kernel = fin false 1 (pos 53) ∷ fin true 1 (pos 53) ∷ 1· ∷ 0· ∷ [];
+      testGeometry = along ++ along;
+      trialGeometry = along ++ along;
+    } in
+    example (distantEntry single a 0 0) 0·
+
+pub point-order-holds : Holds point-order
+unfolding opened-lent-numbers
+point-order-holds = refl

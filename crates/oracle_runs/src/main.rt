@@ -223,15 +223,10 @@ fn plan_agrees(
     places: &mut [u32],
 ) -> bool {
     let answer = plan(
-        case.cells,
-        case.vertices,
-        case.edges,
+        case.sizes,
         cell_vertices,
         cell_edges,
-        case.test,
-        case.trial,
-        case.batch,
-        case.integrand,
+        case.assembly,
         test_dofs,
         trial_dofs,
         test_colours,

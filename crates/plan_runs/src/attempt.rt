@@ -2,9 +2,11 @@
 use boundary_assemblers::PlanNumbers;
 use boundary_assemblers::Planned;
 use function::Element;
+use grid::Sizes;
 use integrands::Integrand;
 use integrands::Term;
 use libc::STDOUT_FILENO;
+use planning::Assembly;
 use planning::plan;
 ghost use Prim.Native.Nat.{_≤_};
 
@@ -217,16 +219,22 @@ fn run(
     let test = x.test;
     let trial = x.trial;
     let integrand = x.integrand;
+    let sizes = Sizes {
+        cells: x.cells,
+        vertices: x.vertices,
+        edges: x.edges,
+    };
+    let assembly = Assembly {
+        test: test,
+        trial: trial,
+        batch: x.batch,
+        integrand: integrand,
+    };
     let answer = plan(
-        x.cells,
-        x.vertices,
-        x.edges,
+        sizes,
         cell_vertices,
         cell_edges,
-        test,
-        trial,
-        x.batch,
-        integrand,
+        assembly,
         test_dofs,
         trial_dofs,
         test_colours,

@@ -1,9 +1,10 @@
 // Checks 1 to 8, in this order.
+use crate::Assembly;
 use cell_patterns::patterns_right;
 use function::Element;
 use function::dims_right;
+use grid::Sizes;
 use grid::mesh_refusal;
-use integrands::Integrand;
 use integrands::integrand_right;
 use numbers::wide;
 use work_records::WIDTH;
@@ -12,7 +13,9 @@ ghost use Prim.Native.Nat.{_≤_};
 ghost use Rattle.plans.specs.Planning.{lengthsRight, planRefusal};
 ghost use Rattle.grid.specs.Mesh.{mostCells};
 ghost use Rattle.function.specs.Elements.{mostDim, dim};
-ghost use Rattle.plans.specs.Planning.{meshOf, planningOf, listsOf};
+ghost use Rattle.plans.specs.Planning.{listsOf};
+ghost use Rattle.grid.specs.Mesh.{meshOf};
+ghost use Rattle.planning.specs.Arguments.{planningWith};
 
 // The largest batch.
 const MOST_BATCH: u32 = 65535;
@@ -48,15 +51,10 @@ fn lengths_right(
 
 // The first check that turns planning down, or 0. It writes nothing.
 pub fn plan_refusal(
-    cells: u32,
-    vertices: u32,
-    edges: u32,
+    sizes: Sizes,
     cell_vertices: &[u32],
     cell_edges: &[u32],
-    test: Element,
-    trial: Element,
-    batch: u32,
-    integrand: Integrand,
+    assembly: Assembly,
     test_dofs: &[u32],
     trial_dofs: &[u32],
     test_colours: &[u32],
@@ -65,27 +63,30 @@ pub fn plan_refusal(
     trial_owners: &[u32],
     work: &[u32],
 ) -> u32
-    ensures { λ r. ⌜ r ≡ planRefusal (planningOf (meshOf cells vertices edges (now («cell_vertices» .entry)) (now («cell_edges» .entry))) test trial batch integrand)
+    ensures { λ r. ⌜ r ≡ planRefusal (planningWith (meshOf sizes (now («cell_vertices» .entry)) (now («cell_edges» .entry))) assembly)
         (listsOf (now («test_dofs» .entry)) (now («trial_dofs» .entry)) (now («test_colours» .entry)) (now («trial_colours» .entry)) (now («test_owners» .entry)) (now («trial_owners» .entry)) (now (work .entry))) ⌝ }
 {
-    let v = mesh_refusal(cells, vertices, edges, cell_vertices, cell_edges);
+    let test = assembly.test;
+    let trial = assembly.trial;
+    let integrand = assembly.integrand;
+    let v = mesh_refusal(sizes, cell_vertices, cell_edges);
     if v != 0 {
         return v;
     }
     if !dims_right(test, trial) {
         return 4;
     }
-    if !((1 <= batch) & (batch <= MOST_BATCH)) {
+    if !((1 <= assembly.batch) & (assembly.batch <= MOST_BATCH)) {
         return 5;
     }
     if !integrand_right(integrand) {
         return 6;
     }
-    if !patterns_right(wide(cells), cell_vertices) {
+    if !patterns_right(wide(sizes.cells), cell_vertices) {
         return 7;
     }
     if !lengths_right(
-        cells,
+        sizes.cells,
         test,
         trial,
         test_dofs,

@@ -8,6 +8,7 @@ use checks::plan_refusal;
 use function::Element;
 use function::assign_dofs;
 use function::cell_colouring;
+use grid::Sizes;
 use integrands::Integrand;
 use numbers::wide;
 use work_list::write_work;
@@ -15,19 +16,24 @@ ghost use mathlib.Core.Path.{_≡_};
 ghost use Rattle.plans.specs.Planning.{plan, planNumbers, planLists, writtenLists};
 ghost use Rattle.boundary_assemblers.specs.Forms.{numbersOf, plannedOf};
 ghost use Rattle.plans.specs.Accepted.{Accepted};
-ghost use Rattle.plans.specs.Planning.{meshOf, planningOf, listsOf};
+ghost use Rattle.plans.specs.Planning.{listsOf};
+ghost use Rattle.grid.specs.Mesh.{meshOf};
+ghost use Rattle.planning.specs.Arguments.{planningWith};
+
+// What is to be assembled on a mesh: two elements, the batch size and the integrand.
+pub struct Assembly {
+    pub test: Element,
+    pub trial: Element,
+    pub batch: u32,
+    pub integrand: Integrand,
+}
 
 // Writes the seven lists of a planning that no check turns down.
 fn write_plan(
-    cells: u32,
-    vertices: u32,
-    edges: u32,
+    sizes: Sizes,
     cell_vertices: &[u32],
     cell_edges: &[u32],
-    test: Element,
-    trial: Element,
-    batch: u32,
-    integrand: Integrand,
+    assembly: Assembly,
     test_dofs: &mut [u32],
     trial_dofs: &mut [u32],
     test_colours: &mut [u32],
@@ -36,14 +42,17 @@ fn write_plan(
     trial_owners: &mut [u32],
     work: &mut [u32],
 ) -> PlanNumbers
-    requires { ⌜ Accepted (planningOf (meshOf cells vertices edges (now «cell_vertices») (now «cell_edges»)) test trial batch integrand)
+    requires { ⌜ Accepted (planningWith (meshOf sizes (now «cell_vertices») (now «cell_edges»)) assembly)
         (listsOf (now «test_dofs») (now «trial_dofs») (now «test_colours») (now «trial_colours») (now «test_owners») (now «trial_owners») (now work)) ⌝ }
-    ensures { λ r. ⌜ numbersOf r ≡ planNumbers (planningOf (meshOf cells vertices edges (now («cell_vertices» .entry)) (now («cell_edges» .entry))) test trial batch integrand) ⌝ }
+    ensures { λ r. ⌜ numbersOf r ≡ planNumbers (planningWith (meshOf sizes (now («cell_vertices» .entry)) (now («cell_edges» .entry))) assembly) ⌝ }
     ensures { λ _. ⌜ listsOf (now («test_dofs» .exit)) (now («trial_dofs» .exit)) (now («test_colours» .exit)) (now («trial_colours» .exit)) (now («test_owners» .exit)) (now («trial_owners» .exit)) (now (work .exit))
-        ≡ writtenLists (planningOf (meshOf cells vertices edges (now («cell_vertices» .entry)) (now («cell_edges» .entry))) test trial batch integrand)
+        ≡ writtenLists (planningWith (meshOf sizes (now («cell_vertices» .entry)) (now («cell_edges» .entry))) assembly)
         (listsOf (now («test_dofs» .entry)) (now («trial_dofs» .entry)) (now («test_colours» .entry)) (now («trial_colours» .entry)) (now («test_owners» .entry)) (now («trial_owners» .entry)) (now (work .entry))) ⌝ }
 {
-    let c = wide(cells);
+    let test = assembly.test;
+    let trial = assembly.trial;
+    let integrand = assembly.integrand;
+    let c = wide(sizes.cells);
     let rows = assign_dofs(c, cell_vertices, cell_edges, test, test_dofs, test_owners);
     let columns = assign_dofs(
         c,
@@ -57,9 +66,9 @@ fn write_plan(
     let trial_count = cell_colouring(c, cell_vertices, cell_edges, trial, trial_colours);
     let n = write_work(
         c,
-        wide(vertices),
+        wide(sizes.vertices),
         cell_vertices,
-        wide(batch),
+        wide(assembly.batch),
         test_colours,
         wide(test_count),
         trial_colours,
@@ -67,11 +76,11 @@ fn write_plan(
         work,
     );
     let distant = n as u32;
-    let touching = cells * cells - distant;
+    let touching = sizes.cells * sizes.cells - distant;
     PlanNumbers {
-        cells: cells,
-        vertices: vertices,
-        edges: edges,
+        cells: sizes.cells,
+        vertices: sizes.vertices,
+        edges: sizes.edges,
         touching: touching,
         distant: distant,
         rows: rows,
@@ -84,15 +93,10 @@ fn write_plan(
 
 // Plans: checks 1 to 8 in this order, every check before the first write; then the seven lists and the numbers.
 pub fn plan(
-    cells: u32,
-    vertices: u32,
-    edges: u32,
+    sizes: Sizes,
     cell_vertices: &[u32],
     cell_edges: &[u32],
-    test: Element,
-    trial: Element,
-    batch: u32,
-    integrand: Integrand,
+    assembly: Assembly,
     test_dofs: &mut [u32],
     trial_dofs: &mut [u32],
     test_colours: &mut [u32],
@@ -101,22 +105,17 @@ pub fn plan(
     trial_owners: &mut [u32],
     work: &mut [u32],
 ) -> Planned
-    ensures { λ r. ⌜ plannedOf r ≡ plan (planningOf (meshOf cells vertices edges (now («cell_vertices» .entry)) (now («cell_edges» .entry))) test trial batch integrand)
+    ensures { λ r. ⌜ plannedOf r ≡ plan (planningWith (meshOf sizes (now («cell_vertices» .entry)) (now («cell_edges» .entry))) assembly)
         (listsOf (now («test_dofs» .entry)) (now («trial_dofs» .entry)) (now («test_colours» .entry)) (now («trial_colours» .entry)) (now («test_owners» .entry)) (now («trial_owners» .entry)) (now (work .entry))) ⌝ }
     ensures { λ _. ⌜ listsOf (now («test_dofs» .exit)) (now («trial_dofs» .exit)) (now («test_colours» .exit)) (now («trial_colours» .exit)) (now («test_owners» .exit)) (now («trial_owners» .exit)) (now (work .exit))
-        ≡ planLists (planningOf (meshOf cells vertices edges (now («cell_vertices» .entry)) (now («cell_edges» .entry))) test trial batch integrand)
+        ≡ planLists (planningWith (meshOf sizes (now («cell_vertices» .entry)) (now («cell_edges» .entry))) assembly)
         (listsOf (now («test_dofs» .entry)) (now («trial_dofs» .entry)) (now («test_colours» .entry)) (now («trial_colours» .entry)) (now («test_owners» .entry)) (now («trial_owners» .entry)) (now (work .entry))) ⌝ }
 {
     let v = plan_refusal(
-        cells,
-        vertices,
-        edges,
+        sizes,
         cell_vertices,
         cell_edges,
-        test,
-        trial,
-        batch,
-        integrand,
+        assembly,
         test_dofs,
         trial_dofs,
         test_colours,
@@ -129,15 +128,10 @@ pub fn plan(
         return Planned::Refused(v);
     }
     let numbers = write_plan(
-        cells,
-        vertices,
-        edges,
+        sizes,
         cell_vertices,
         cell_edges,
-        test,
-        trial,
-        batch,
-        integrand,
+        assembly,
         test_dofs,
         trial_dofs,
         test_colours,

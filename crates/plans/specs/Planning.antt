@@ -56,9 +56,6 @@ pub data Planned : Type 0 where
   refused : ℕ → Planned
 
 -- from the arguments of a call
-abbrev pub meshOf : ℕ → ℕ → ℕ → List ℕ → List ℕ → Mesh
-meshOf C V' E cellVertices cellEdges = record { cells = C; vertices = V'; edges = E; cellVertices = cellVertices; cellEdges = cellEdges }
-
 abbrev pub planningOf : Mesh → Element → Element → ℕ → Integrand → Planning
 planningOf m test trial B f = record { mesh = m; test = test; trial = trial; batch = B; integrand = f }
 

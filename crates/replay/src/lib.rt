@@ -4,15 +4,17 @@ use boundary_assemblers::Looked;
 use boundary_assemblers::PlanNumbers;
 use boundary_assemblers::Planned;
 use boundary_assemblers::Run;
-use function::Element;
-use integrands::Integrand;
+use grid::Sizes;
+use planning::Assembly;
 use planning::plan;
 ghost use mathlib.Core.Path.{_≡_};
 ghost use mathlib.Core.List.{[], _∷_};
 ghost use Prim.Native.Nat.{_+_, _*_, _≤_, _<_};
 ghost use lib.ListN.{length};
 ghost use lib.Seq.{sets};
-ghost use Rattle.plans.specs.Planning.{meshOf, planningOf, listsOf, planLists};
+ghost use Rattle.grid.specs.Mesh.{meshOf};
+ghost use Rattle.plans.specs.Planning.{listsOf, planLists};
+ghost use Rattle.planning.specs.Arguments.{planningWith};
 ghost use Rattle.runs.specs.Runs.{planOf, entryLists, begun, addDistant, distantMatrix, addTouching, touchingMatrix, addEntries, entriesWritten};
 ghost use Rattle.boundary_assemblers.specs.Forms.{numbersOf, runOf, lookedOf, addedOf};
 ghost use Rattle.replay.specs.Encoding.{partOf, listIn, distantIn, touchingIn, callOf, callsOf, callCount, answerNumbers};
@@ -308,15 +310,10 @@ fn begin_run(numbers: PlanNumbers, entries: bool) -> Run
 
 // Plans, begins a run, of entries or dense, and plays the calls on it, as many as there is room to answer; plays nothing where planning refuses.
 pub fn replay(
-    cells: u32,
-    vertices: u32,
-    edges: u32,
+    sizes: Sizes,
     cell_vertices: &[u32],
     cell_edges: &[u32],
-    test: Element,
-    trial: Element,
-    batch: u32,
-    integrand: Integrand,
+    assembly: Assembly,
     test_dofs: &mut [u32],
     trial_dofs: &mut [u32],
     test_colours: &mut [u32],
@@ -333,32 +330,27 @@ pub fn replay(
     values: &mut [f64],
     answers: &mut [u32],
 ) -> Replayed
-    ensures { λ r. ⌜ outcomeOf r ≡ replayed (planningOf (meshOf cells vertices edges (now («cell_vertices» .entry)) (now («cell_edges» .entry))) test trial batch integrand)
+    ensures { λ r. ⌜ outcomeOf r ≡ replayed (planningWith (meshOf sizes (now («cell_vertices» .entry)) (now («cell_edges» .entry))) assembly)
         (listsOf (now («test_dofs» .entry)) (now («trial_dofs» .entry)) (now («test_colours» .entry)) (now («trial_colours» .entry)) (now («test_owners» .entry)) (now («trial_owners» .entry)) (now (work .entry))) entries
         (callsOf (now (calls .entry)) (now (pool .entry)) (callCount (now (calls .entry)) (now (answers .entry)))) (now (matrix .entry)) (entryLists (now (rows .entry)) (now (columns .entry)) (now (values .entry))) ⌝ }
-    ensures { λ _. ⌜ now (matrix .exit) ≡ replayedMatrix (planningOf (meshOf cells vertices edges (now («cell_vertices» .entry)) (now («cell_edges» .entry))) test trial batch integrand)
+    ensures { λ _. ⌜ now (matrix .exit) ≡ replayedMatrix (planningWith (meshOf sizes (now («cell_vertices» .entry)) (now («cell_edges» .entry))) assembly)
         (listsOf (now («test_dofs» .entry)) (now («trial_dofs» .entry)) (now («test_colours» .entry)) (now («trial_colours» .entry)) (now («test_owners» .entry)) (now («trial_owners» .entry)) (now (work .entry))) entries
         (callsOf (now (calls .entry)) (now (pool .entry)) (callCount (now (calls .entry)) (now (answers .entry)))) (now (matrix .entry)) (entryLists (now (rows .entry)) (now (columns .entry)) (now (values .entry))) ⌝ }
-    ensures { λ _. ⌜ entryLists (now (rows .exit)) (now (columns .exit)) (now (values .exit)) ≡ replayedLists (planningOf (meshOf cells vertices edges (now («cell_vertices» .entry)) (now («cell_edges» .entry))) test trial batch integrand)
+    ensures { λ _. ⌜ entryLists (now (rows .exit)) (now (columns .exit)) (now (values .exit)) ≡ replayedLists (planningWith (meshOf sizes (now («cell_vertices» .entry)) (now («cell_edges» .entry))) assembly)
         (listsOf (now («test_dofs» .entry)) (now («trial_dofs» .entry)) (now («test_colours» .entry)) (now («trial_colours» .entry)) (now («test_owners» .entry)) (now («trial_owners» .entry)) (now (work .entry))) entries
         (callsOf (now (calls .entry)) (now (pool .entry)) (callCount (now (calls .entry)) (now (answers .entry)))) (now (matrix .entry)) (entryLists (now (rows .entry)) (now (columns .entry)) (now (values .entry))) ⌝ }
-    ensures { λ _. ⌜ now (answers .exit) ≡ replayedAnswers (planningOf (meshOf cells vertices edges (now («cell_vertices» .entry)) (now («cell_edges» .entry))) test trial batch integrand)
+    ensures { λ _. ⌜ now (answers .exit) ≡ replayedAnswers (planningWith (meshOf sizes (now («cell_vertices» .entry)) (now («cell_edges» .entry))) assembly)
         (listsOf (now («test_dofs» .entry)) (now («trial_dofs» .entry)) (now («test_colours» .entry)) (now («trial_colours» .entry)) (now («test_owners» .entry)) (now («trial_owners» .entry)) (now (work .entry))) entries
         (callsOf (now (calls .entry)) (now (pool .entry)) (callCount (now (calls .entry)) (now (answers .entry)))) (now (matrix .entry)) (entryLists (now (rows .entry)) (now (columns .entry)) (now (values .entry))) (now (answers .entry)) ⌝ }
     ensures { λ _. ⌜ listsOf (now («test_dofs» .exit)) (now («trial_dofs» .exit)) (now («test_colours» .exit)) (now («trial_colours» .exit)) (now («test_owners» .exit)) (now («trial_owners» .exit)) (now (work .exit))
-        ≡ planLists (planningOf (meshOf cells vertices edges (now («cell_vertices» .entry)) (now («cell_edges» .entry))) test trial batch integrand)
+        ≡ planLists (planningWith (meshOf sizes (now («cell_vertices» .entry)) (now («cell_edges» .entry))) assembly)
         (listsOf (now («test_dofs» .entry)) (now («trial_dofs» .entry)) (now («test_colours» .entry)) (now («trial_colours» .entry)) (now («test_owners» .entry)) (now («trial_owners» .entry)) (now (work .entry))) ⌝ }
 {
     let planned = plan(
-        cells,
-        vertices,
-        edges,
+        sizes,
         cell_vertices,
         cell_edges,
-        test,
-        trial,
-        batch,
-        integrand,
+        assembly,
         test_dofs,
         trial_dofs,
         test_colours,

@@ -92,15 +92,10 @@ fn calls_agree(
     values: &mut [f64],
 ) -> bool {
     let answer = replay(
-        case.cells,
-        case.vertices,
-        case.edges,
+        case.sizes,
         cell_vertices,
         cell_edges,
-        case.test,
-        case.trial,
-        case.batch,
-        case.integrand,
+        case.assembly,
         test_dofs,
         trial_dofs,
         test_colours,
@@ -239,7 +234,8 @@ fn print_count(n: u32, words: &[u8]) {
 
 // The line of a case.
 fn print_case(case: Case, calls: u32, position: u32, agrees: bool) {
-    print_count(case.cells, b" cells, ");
+    let sizes = case.sizes;
+    print_count(sizes.cells, b" cells, ");
     print_count(calls, b" calls, ");
     if case.refusal == 0 {
         io::write_all(STDOUT_FILENO, b"position ");

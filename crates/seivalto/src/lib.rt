@@ -9,9 +9,12 @@ use forms::element_of;
 use forms::integrand_of;
 use forms::numbers_of;
 use forms::run_of;
+use grid::Sizes;
+use planning::Assembly;
 use planning::plan;
 ghost use mathlib.Core.Path.{_≡_};
-ghost use Rattle.plans.specs.Planning.{meshOf, planningOf, listsOf, plan, planLists};
+ghost use Rattle.grid.specs.Mesh.{sizesOf, meshOf};
+ghost use Rattle.plans.specs.Planning.{planningOf, listsOf, plan, planLists};
 ghost use Rattle.runs.specs.Runs.{planOf, begin, beginEntries, look};
 ghost use Rattle.seivalto.specs.Forms.{elementOf, integrandOf, numbersOf, runOf, cPlanned, cRun, cLooked};
 
@@ -113,22 +116,28 @@ pub extern "C" fn seivalto_plan(
     work: &mut [u32],
 ) -> CPlanned
     ensures { λ r. ⌜ r ≡ cPlanned test trial integrand
-        (plan (planningOf (meshOf cells vertices edges (now («cell_vertices» .entry)) (now («cell_edges» .entry))) (elementOf test) (elementOf trial) batch (integrandOf integrand))
+        (plan (planningOf (meshOf (sizesOf cells vertices edges) (now («cell_vertices» .entry)) (now («cell_edges» .entry))) (elementOf test) (elementOf trial) batch (integrandOf integrand))
         (listsOf (now («test_dofs» .entry)) (now («trial_dofs» .entry)) (now («test_colours» .entry)) (now («trial_colours» .entry)) (now («test_owners» .entry)) (now («trial_owners» .entry)) (now (work .entry)))) ⌝ }
     ensures { λ _. ⌜ listsOf (now («test_dofs» .exit)) (now («trial_dofs» .exit)) (now («test_colours» .exit)) (now («trial_colours» .exit)) (now («test_owners» .exit)) (now («trial_owners» .exit)) (now (work .exit))
-        ≡ planLists (planningOf (meshOf cells vertices edges (now («cell_vertices» .entry)) (now («cell_edges» .entry))) (elementOf test) (elementOf trial) batch (integrandOf integrand))
+        ≡ planLists (planningOf (meshOf (sizesOf cells vertices edges) (now («cell_vertices» .entry)) (now («cell_edges» .entry))) (elementOf test) (elementOf trial) batch (integrandOf integrand))
         (listsOf (now («test_dofs» .entry)) (now («trial_dofs» .entry)) (now («test_colours» .entry)) (now («trial_colours» .entry)) (now («test_owners» .entry)) (now («trial_owners» .entry)) (now (work .entry))) ⌝ }
 {
+    let sizes = Sizes {
+        cells: cells,
+        vertices: vertices,
+        edges: edges,
+    };
+    let assembly = Assembly {
+        test: element_of(test),
+        trial: element_of(trial),
+        batch: batch,
+        integrand: integrand_of(integrand),
+    };
     let answer = plan(
-        cells,
-        vertices,
-        edges,
+        sizes,
         cell_vertices,
         cell_edges,
-        element_of(test),
-        element_of(trial),
-        batch,
-        integrand_of(integrand),
+        assembly,
         test_dofs,
         trial_dofs,
         test_colours,

@@ -4,6 +4,7 @@ use crate::text::put_refused;
 use boundary_assemblers::Planned;
 use function::Element;
 use function::MOST_DIM;
+use grid::Sizes;
 use integrands::Integrand;
 use integrands::Term;
 use job::JobNumbers;
@@ -11,16 +12,19 @@ use job::JobRead;
 use job::MOST_WORKLIST_CELLS;
 use job::read_job;
 use numbers::wide;
+use planning::Assembly;
 use planning::plan;
 use work_records::WIDTH;
 ghost use mathlib.Core.Path.{_≡_};
 ghost use Prim.Native.Nat.{_*_, _≤_, min};
 ghost use lib.ListN.{length, take};
 ghost use Rattle.lists.specs.Writes.{numbers, Wrote};
-ghost use Rattle.plans.specs.Planning.{meshOf, planningOf, listsOf};
+ghost use Rattle.grid.specs.Mesh.{meshOf};
+ghost use Rattle.plans.specs.Planning.{listsOf};
+ghost use Rattle.planning.specs.Arguments.{planningWith};
 ghost use Rattle.function.specs.Elements.{mostDim, dim};
 ghost use Rattle.job.specs.Job.{mostWorklistCells};
-ghost use Rattle.worklist_text.specs.Text.{bareZero, numbersPlanning, worklist, refusedLine};
+ghost use Rattle.worklist_text.specs.Text.{numbersPlanning, worklist, refusedLine};
 ghost use Rattle.worklist_text.specs.PlannedText.{plannedText, rightText, mostText, Arrays, Printed};
 
 // The most cells of a job, places of a DOF list, and pairs of cells.
@@ -33,16 +37,12 @@ const PAIRS: usize = CELLS * CELLS;
 // The most bytes of the text: a line of at most 12 for each pair.
 pub const MOST_TEXT: usize = 12 * PAIRS;
 
-// Plans with one bare term of kind 0, and writes the work list's lines, or what is refused.
+// Plans, and writes the work list's lines, or what is refused.
 fn put_planned(
-    cells: u32,
-    vertices: u32,
-    edges: u32,
+    sizes: Sizes,
     cell_vertices: &[u32],
     cell_edges: &[u32],
-    test: Element,
-    trial: Element,
-    batch: u32,
+    assembly: Assembly,
     test_dofs: &mut [u32],
     trial_dofs: &mut [u32],
     test_colours: &mut [u32],
@@ -52,26 +52,16 @@ fn put_planned(
     work: &mut [u32],
     text: &mut [u8],
 ) -> usize
-    requires { ⌜ (cells ≤ mostWorklistCells) × (mostText ≤ length (now text)) ⌝ }
+    requires { ⌜ (sizes .cells ≤ mostWorklistCells) × (mostText ≤ length (now text)) ⌝ }
     ensures { λ r. ⌜ Wrote numbers (now (text .entry)) (now (text .exit)) 0 r
-        (plannedText (planningOf (meshOf cells vertices edges (now («cell_vertices» .entry)) (now («cell_edges» .entry))) test trial batch bareZero)
+        (plannedText (planningWith (meshOf sizes (now («cell_vertices» .entry)) (now («cell_edges» .entry))) assembly)
         (listsOf (now («test_dofs» .entry)) (now («trial_dofs» .entry)) (now («test_colours» .entry)) (now («trial_colours» .entry)) (now («test_owners» .entry)) (now («trial_owners» .entry)) (now (work .entry)))) ⌝ }
 {
-    let integrand = Integrand {
-        terms: 1,
-        first: Term::Bare(0),
-        second: Term::Bare(0),
-    };
     let planned = plan(
-        cells,
-        vertices,
-        edges,
+        sizes,
         cell_vertices,
         cell_edges,
-        test,
-        trial,
-        batch,
-        integrand,
+        assembly,
         test_dofs,
         trial_dofs,
         test_colours,
@@ -113,14 +103,10 @@ fn pair_count(cells: u32) -> usize
 
 // The same with lists of the right lengths, in arrays that are long enough for the most cells.
 fn put_sized(
-    cells: u32,
-    vertices: u32,
-    edges: u32,
+    sizes: Sizes,
     cell_vertices: &[u32],
     cell_edges: &[u32],
-    test: Element,
-    trial: Element,
-    batch: u32,
+    assembly: Assembly,
     test_dofs: &mut [u32],
     trial_dofs: &mut [u32],
     test_colours: &mut [u32],
@@ -130,26 +116,24 @@ fn put_sized(
     work: &mut [u32],
     text: &mut [u8],
 ) -> usize
-    requires { ⌜ (cells ≤ mostWorklistCells) × (mostText ≤ length (now text)) ⌝ }
+    requires { ⌜ (sizes .cells ≤ mostWorklistCells) × (mostText ≤ length (now text)) ⌝ }
     requires { ⌜ Arrays (now «test_dofs») (now «trial_dofs») (now «test_colours») (now «trial_colours») (now «test_owners») (now «trial_owners») (now work) ⌝ }
     ensures { λ r. ⌜ Wrote numbers (now (text .entry)) (now (text .exit)) 0 r
-        (rightText (planningOf (meshOf cells vertices edges (now («cell_vertices» .entry)) (now («cell_edges» .entry))) test trial batch bareZero)) ⌝ }
+        (rightText (planningWith (meshOf sizes (now («cell_vertices» .entry)) (now («cell_edges» .entry))) assembly)) ⌝ }
 {
-    let c = wide(cells);
-    let rows = dof_places(cells, test);
-    let columns = dof_places(cells, trial);
+    let test = assembly.test;
+    let trial = assembly.trial;
+    let c = wide(sizes.cells);
+    let rows = dof_places(sizes.cells, test);
+    let columns = dof_places(sizes.cells, trial);
     let test_places = 3 * rows;
     let trial_places = 3 * columns;
-    let places = WIDTH * pair_count(cells);
+    let places = WIDTH * pair_count(sizes.cells);
     put_planned(
-        cells,
-        vertices,
-        edges,
+        sizes,
         cell_vertices,
         cell_edges,
-        test,
-        trial,
-        batch,
+        assembly,
         &mut test_dofs[..rows],
         &mut trial_dofs[..columns],
         &mut test_colours[..c],
@@ -163,19 +147,15 @@ fn put_sized(
 
 // The same with arrays of its own.
 fn put_mesh(
-    cells: u32,
-    vertices: u32,
-    edges: u32,
+    sizes: Sizes,
     cell_vertices: &[u32],
     cell_edges: &[u32],
-    test: Element,
-    trial: Element,
-    batch: u32,
+    assembly: Assembly,
     text: &mut [u8],
 ) -> usize
-    requires { ⌜ (cells ≤ mostWorklistCells) × (mostText ≤ length (now text)) ⌝ }
+    requires { ⌜ (sizes .cells ≤ mostWorklistCells) × (mostText ≤ length (now text)) ⌝ }
     ensures { λ r. ⌜ Wrote numbers (now (text .entry)) (now (text .exit)) 0 r
-        (rightText (planningOf (meshOf cells vertices edges (now («cell_vertices» .entry)) (now («cell_edges» .entry))) test trial batch bareZero)) ⌝ }
+        (rightText (planningWith (meshOf sizes (now («cell_vertices» .entry)) (now («cell_edges» .entry))) assembly)) ⌝ }
 {
     let mut test_dofs = [0u32; DOFS];
     let mut trial_dofs = [0u32; DOFS];
@@ -185,14 +165,10 @@ fn put_mesh(
     let mut trial_owners = [0u32; 3 * DOFS];
     let mut work = [0u32; WIDTH * PAIRS];
     put_sized(
-        cells,
-        vertices,
-        edges,
+        sizes,
         cell_vertices,
         cell_edges,
-        test,
-        trial,
-        batch,
+        assembly,
         &mut test_dofs,
         &mut trial_dofs,
         &mut test_colours,
@@ -204,7 +180,7 @@ fn put_mesh(
     )
 }
 
-// The same for the numbers of a job, whose vertices and edges stand at the front of these lists.
+// The same for the numbers of a job with one bare term of kind 0, whose vertices and edges stand at the front of these lists.
 fn put_numbers(job: JobNumbers, vertex_list: &[u32], edge_list: &[u32], text: &mut [u8]) -> usize
     requires { ⌜ (job .cells ≤ mostWorklistCells) × (mostText ≤ length (now text)) ⌝ }
     requires { ⌜ (3 * mostWorklistCells ≤ length (now «vertex_list»)) × (3 * mostWorklistCells ≤ length (now «edge_list»)) ⌝ }
@@ -212,17 +188,25 @@ fn put_numbers(job: JobNumbers, vertex_list: &[u32], edge_list: &[u32], text: &m
         (rightText (numbersPlanning job (take (3 * job .cells) (now («vertex_list» .entry))) (take (3 * job .cells) (now («edge_list» .entry))))) ⌝ }
 {
     let n = 3 * wide(job.cells);
-    put_mesh(
-        job.cells,
-        job.vertices,
-        job.edges,
-        &vertex_list[..n],
-        &edge_list[..n],
-        job.test,
-        job.trial,
-        job.batch,
-        text,
-    )
+    let sizes = Sizes {
+        cells: job.cells,
+        vertices: job.vertices,
+        edges: job.edges,
+    };
+    let test = job.test;
+    let trial = job.trial;
+    let integrand = Integrand {
+        terms: 1,
+        first: Term::Bare(0),
+        second: Term::Bare(0),
+    };
+    let assembly = Assembly {
+        test: test,
+        trial: trial,
+        batch: job.batch,
+        integrand: integrand,
+    };
+    put_mesh(sizes, &vertex_list[..n], &edge_list[..n], assembly, text)
 }
 
 // What `worklist` prints for these bytes, by way of lists with room for the most cells.

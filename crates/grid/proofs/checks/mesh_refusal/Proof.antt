@@ -17,7 +17,7 @@ vertices-right-requires c κs = eqb-true _ _ (and-right _ _ (passed (c .before .
 edges-right-requires : tie.Need-edges-right-requires
 edges-right-requires c κs = (
   eqb-true _ _ (and-right _ _ (passed (c .before .before .before .cells-right .ensures) (c .before .before .if1 .left))),
-  below-most _ (c .before .before .before .before .before .before .args .vertices) _ (passed (c .before .vertices-right .ensures) (c .if2 .left)),
+  below-most _ (c .before .before .before .before .before .before .args .sizes .vertices) _ (passed (c .before .vertices-right .ensures) (c .if2 .left)),
 )
 
 returns : tie.Need-returns

@@ -24,37 +24,37 @@ returns-2 c = mesh-passes _ _ (sym (c .before .before .before .mesh-refusal .ens
 
 returns-3 : tie.Need-returns-3
 unfolding batchRight _and_
-returns-3 c = mesh-passes _ _ (sym (c .before .before .before .before .mesh-refusal .ensures) ∙ c .before .before .before .if1 .left) (passed (c .before .before .dims-right .ensures) (c .before .if2 .left) then refused (not-true _ (c .if3 .taken)))
+returns-3 c = mesh-passes _ _ (sym (c .before .before .before .before .before .before .mesh-refusal .ensures) ∙ c .before .before .before .before .before .if1 .left) (passed (c .before .before .before .before .dims-right .ensures) (c .before .before .before .if2 .left) then refused (not-true _ (c .if3 .taken)))
 
 integrand-right-requires : tie.Need-integrand-right-requires
 integrand-right-requires c κs = search needs
 
 returns-4 : tie.Need-returns-4
 unfolding batchRight _and_
-returns-4 c = mesh-passes _ _ (sym (c .before .before .before .before .before .before .mesh-refusal .ensures) ∙ c .before .before .before .before .before .if1 .left) (passed (c .before .before .before .before .dims-right .ensures) (c .before .before .before .if2 .left) then not-false _ (c .before .before .if3 .left) then refused (turned (c .before .integrand-right .ensures) (c .if4 .taken)))
+returns-4 c = mesh-passes _ _ (sym (c .before .before .before .before .before .before .before .before .mesh-refusal .ensures) ∙ c .before .before .before .before .before .before .before .if1 .left) (passed (c .before .before .before .before .before .before .dims-right .ensures) (c .before .before .before .before .before .if2 .left) then not-false _ (c .before .before .if3 .left) then refused (turned (c .before .integrand-right .ensures) (c .if4 .taken)))
 
 wide-requires : tie.Need-wide-requires
 wide-requires c κs = search needs
 
 patterns-right-requires : tie.Need-patterns-right-requires
-patterns-right-requires c κs = let m = fine _ (sym (c .before .before .before .before .before .before .before .mesh-refusal .ensures) ∙ c .before .before .before .before .before .before .if1 .left) in rw (c .wide .ensures) (m .vertexPlaces, m .apart)
+patterns-right-requires c κs = let m = fine _ (sym (c .before .before .before .before .before .before .before .before .before .mesh-refusal .ensures) ∙ c .before .before .before .before .before .before .before .before .if1 .left) in rw (c .wide .ensures) (m .vertexPlaces, m .apart)
 
 returns-5 : tie.Need-returns-5
 unfolding batchRight _and_
-returns-5 c = mesh-passes _ _ (sym (c .before .before .before .before .before .before .before .before .before .mesh-refusal .ensures) ∙ c .before .before .before .before .before .before .before .before .if1 .left) (passed (c .before .before .before .before .before .before .before .dims-right .ensures) (c .before .before .before .before .before .before .if2 .left) then not-false _ (c .before .before .before .before .before .if3 .left) then passed (c .before .before .before .before .integrand-right .ensures) (c .before .before .before .if4 .left) then refused (turned (rw (c .before .before .wide .ensures) at (c .before .patterns-right .ensures)) (c .if5 .taken)))
+returns-5 c = mesh-passes _ _ (sym (c .before .before .before .before .before .before .before .before .before .before .before .mesh-refusal .ensures) ∙ c .before .before .before .before .before .before .before .before .before .before .if1 .left) (passed (c .before .before .before .before .before .before .before .before .before .dims-right .ensures) (c .before .before .before .before .before .before .before .before .if2 .left) then not-false _ (c .before .before .before .before .before .if3 .left) then passed (c .before .before .before .before .integrand-right .ensures) (c .before .before .before .if4 .left) then refused (turned (rw (c .before .before .wide .ensures) at (c .before .patterns-right .ensures)) (c .if5 .taken)))
 
 lengths-right-requires : tie.Need-lengths-right-requires
-lengths-right-requires c κs = let small = dims-small _ _ (passed (c .before .before .before .before .before .before .before .dims-right .ensures) (c .before .before .before .before .before .before .if2 .left)) in (fine _ (sym (c .before .before .before .before .before .before .before .before .before .mesh-refusal .ensures) ∙ c .before .before .before .before .before .before .before .before .if1 .left) .fewCells, small .0, small .1)
+lengths-right-requires c κs = let small = dims-small _ _ (passed (c .before .before .before .before .before .before .before .before .before .dims-right .ensures) (c .before .before .before .before .before .before .before .before .if2 .left)) in (fine _ (sym (c .before .before .before .before .before .before .before .before .before .before .before .mesh-refusal .ensures) ∙ c .before .before .before .before .before .before .before .before .before .before .if1 .left) .fewCells, small .0, small .1)
 
 returns-6 : tie.Need-returns-6
 unfolding batchRight _and_
 returns-6 c =
-    mesh-passes _ _ (sym (c .before .before .before .before .before .before .before .before .before .before .before .mesh-refusal .ensures) ∙ c .before .before .before .before .before .before .before .before .before .before .if1 .left) (passed (c .before .before .before .before .before .before .before .before .before .dims-right .ensures) (c .before .before .before .before .before .before .before .before .if2 .left) then not-false _ (c .before .before .before .before .before .before .before .if3 .left) then passed (c .before .before .before .before .before .before .integrand-right .ensures) (c .before .before .before .before .before .if4 .left) then passed (rw (c .before .before .before .before .wide .ensures) at (c .before .before .before .patterns-right .ensures)) (c .before .before .if5 .left) then refused (turned (c .before .lengths-right .ensures) (c .if6 .taken)))
+    mesh-passes _ _ (sym (c .before .before .before .before .before .before .before .before .before .before .before .before .before .mesh-refusal .ensures) ∙ c .before .before .before .before .before .before .before .before .before .before .before .before .if1 .left) (passed (c .before .before .before .before .before .before .before .before .before .before .before .dims-right .ensures) (c .before .before .before .before .before .before .before .before .before .before .if2 .left) then not-false _ (c .before .before .before .before .before .before .before .if3 .left) then passed (c .before .before .before .before .before .before .integrand-right .ensures) (c .before .before .before .before .before .if4 .left) then passed (rw (c .before .before .before .before .wide .ensures) at (c .before .before .before .patterns-right .ensures)) (c .before .before .if5 .left) then refused (turned (c .before .lengths-right .ensures) (c .if6 .taken)))
 
 returns-7 : tie.Need-returns-7
 unfolding batchRight _and_
 returns-7 c =
-    mesh-passes _ _ (sym (c .before .before .before .before .before .before .before .before .before .before .before .mesh-refusal .ensures) ∙ c .before .before .before .before .before .before .before .before .before .before .if1 .left) (passed (c .before .before .before .before .before .before .before .before .before .dims-right .ensures) (c .before .before .before .before .before .before .before .before .if2 .left) then not-false _ (c .before .before .before .before .before .before .before .if3 .left) then passed (c .before .before .before .before .before .before .integrand-right .ensures) (c .before .before .before .before .before .if4 .left) then passed (rw (c .before .before .before .before .wide .ensures) at (c .before .before .before .patterns-right .ensures)) (c .before .before .if5 .left) then passed (c .before .lengths-right .ensures) (c .if6 .left) then accepted)
+    mesh-passes _ _ (sym (c .before .before .before .before .before .before .before .before .before .before .before .before .before .mesh-refusal .ensures) ∙ c .before .before .before .before .before .before .before .before .before .before .before .before .if1 .left) (passed (c .before .before .before .before .before .before .before .before .before .before .before .dims-right .ensures) (c .before .before .before .before .before .before .before .before .before .before .if2 .left) then not-false _ (c .before .before .before .before .before .before .before .if3 .left) then passed (c .before .before .before .before .before .before .integrand-right .ensures) (c .before .before .before .before .before .if4 .left) then passed (rw (c .before .before .before .before .wide .ensures) at (c .before .before .before .patterns-right .ensures)) (c .before .before .if5 .left) then passed (c .before .lengths-right .ensures) (c .if6 .left) then accepted)
 
 pub plan-refusal-spec : {M : Type 1} → statement M
 plan-refusal-spec =

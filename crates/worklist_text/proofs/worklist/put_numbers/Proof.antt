@@ -14,10 +14,10 @@ mul-n : tie.Need-mul-n
 mul-n c = search needs
 
 slice-aggregate-put-mesh : tie.Need-slice-aggregate-put-mesh
-slice-aggregate-put-mesh c = sym (length-take-le (3 * c .before .wide .result) (c .before .before .before .before .before .args .vertex-list .now) (omega arith))
+slice-aggregate-put-mesh c = sym (length-take-le (3 * c .before .before .before .wide .result) (c .before .before .before .before .before .before .before .args .vertex-list .now) (omega arith))
 
 slice-aggregate-put-mesh-2 : tie.Need-slice-aggregate-put-mesh-2
-slice-aggregate-put-mesh-2 c = sym (length-take-le (3 * c .before .before .wide .result) (c .before .before .before .before .before .before .args .edge-list .now) (omega arith))
+slice-aggregate-put-mesh-2 c = sym (length-take-le (3 * c .before .before .before .before .wide .result) (c .before .before .before .before .before .before .before .before .args .edge-list .now) (omega arith))
 
 put-mesh-requires : tie.Need-put-mesh-requires
 put-mesh-requires c κs = search needs
@@ -26,7 +26,7 @@ same-length : tie.Need-same-length
 same-length c = search needs
 
 returns : tie.Need-returns
-returns c = rw (c .before .before .before .before .before .before .wide .ensures) at (c .before .before .put-mesh .ensures)
+returns c = rw (c .before .before .before .before .before .before .before .before .wide .ensures) at (c .before .before .put-mesh .ensures)
 
 pub put-numbers-spec : {M : Type 1} → statement M
 put-numbers-spec =

@@ -32,43 +32,43 @@ slice-relend-prefix-put-planned : tie.Need-slice-relend-prefix-put-planned
 slice-relend-prefix-put-planned c = search needs
 
 slice-aggregate-put-planned : tie.Need-slice-aggregate-put-planned
-slice-aggregate-put-planned c = sym (took (c .before .before .before .dof-places .result) (c .before .before .before .before .before .before .before .before .before .before .before .before .before .before .before .args .test-dofs .now) (omega arith) refl)
+slice-aggregate-put-planned c = sym (took (c .before .before .before .dof-places .result) (c .before .before .before .before .before .before .before .before .before .before .before .before .before .before .before .before .before .args .test-dofs .now) (omega arith) refl)
 
 slice-relend-prefix-put-planned-2 : tie.Need-slice-relend-prefix-put-planned-2
 slice-relend-prefix-put-planned-2 c = search needs
 
 slice-aggregate-put-planned-2 : tie.Need-slice-aggregate-put-planned-2
-slice-aggregate-put-planned-2 c = sym (took (c .before .before .before .dof-places2 .result) (c .before .before .before .before .before .before .before .before .before .before .before .before .before .before .before .before .args .trial-dofs .now) (omega arith) refl)
+slice-aggregate-put-planned-2 c = sym (took (c .before .before .before .dof-places2 .result) (c .before .before .before .before .before .before .before .before .before .before .before .before .before .before .before .before .before .before .args .trial-dofs .now) (omega arith) refl)
 
 slice-relend-prefix-put-planned-3 : tie.Need-slice-relend-prefix-put-planned-3
 slice-relend-prefix-put-planned-3 c = search needs
 
 slice-aggregate-put-planned-3 : tie.Need-slice-aggregate-put-planned-3
-slice-aggregate-put-planned-3 c = sym (took (c .before .before .before .before .before .before .wide .result) (c .before .before .before .before .before .before .before .before .before .before .before .before .before .before .before .before .before .args .test-colours .now) (omega arith) refl)
+slice-aggregate-put-planned-3 c = sym (took (c .before .before .before .before .before .before .wide .result) (c .before .before .before .before .before .before .before .before .before .before .before .before .before .before .before .before .before .before .before .args .test-colours .now) (omega arith) refl)
 
 slice-relend-prefix-put-planned-4 : tie.Need-slice-relend-prefix-put-planned-4
 slice-relend-prefix-put-planned-4 c = search needs
 
 slice-aggregate-put-planned-4 : tie.Need-slice-aggregate-put-planned-4
-slice-aggregate-put-planned-4 c = sym (took (c .before .before .before .before .before .before .before .wide .result) (c .before .before .before .before .before .before .before .before .before .before .before .before .before .before .before .before .before .before .args .trial-colours .now) (omega arith) refl)
+slice-aggregate-put-planned-4 c = sym (took (c .before .before .before .before .before .before .before .wide .result) (c .before .before .before .before .before .before .before .before .before .before .before .before .before .before .before .before .before .before .before .before .args .trial-colours .now) (omega arith) refl)
 
 slice-relend-prefix-put-planned-5 : tie.Need-slice-relend-prefix-put-planned-5
 slice-relend-prefix-put-planned-5 c = search needs
 
 slice-aggregate-put-planned-5 : tie.Need-slice-aggregate-put-planned-5
-slice-aggregate-put-planned-5 c = sym (took (3 * c .before .before .before .before .before .before .before .dof-places .result) (c .before .before .before .before .before .before .before .before .before .before .before .before .before .before .before .before .before .before .before .args .test-owners .now) (omega arith) refl)
+slice-aggregate-put-planned-5 c = sym (took (3 * c .before .before .before .before .before .before .before .dof-places .result) (c .before .before .before .before .before .before .before .before .before .before .before .before .before .before .before .before .before .before .before .before .before .args .test-owners .now) (omega arith) refl)
 
 slice-relend-prefix-put-planned-6 : tie.Need-slice-relend-prefix-put-planned-6
 slice-relend-prefix-put-planned-6 c = search needs
 
 slice-aggregate-put-planned-6 : tie.Need-slice-aggregate-put-planned-6
-slice-aggregate-put-planned-6 c = sym (took (3 * c .before .before .before .before .before .before .before .dof-places2 .result) (c .before .before .before .before .before .before .before .before .before .before .before .before .before .before .before .before .before .before .before .before .args .trial-owners .now) (omega arith) refl)
+slice-aggregate-put-planned-6 c = sym (took (3 * c .before .before .before .before .before .before .before .dof-places2 .result) (c .before .before .before .before .before .before .before .before .before .before .before .before .before .before .before .before .before .before .before .before .before .before .args .trial-owners .now) (omega arith) refl)
 
 slice-relend-prefix-put-planned-7 : tie.Need-slice-relend-prefix-put-planned-7
 slice-relend-prefix-put-planned-7 c = search needs
 
 slice-aggregate-put-planned-7 : tie.Need-slice-aggregate-put-planned-7
-slice-aggregate-put-planned-7 c = sym (took (3 * c .before .before .before .before .before .before .before .pair-count .result) (c .before .before .before .before .before .before .before .before .before .before .before .before .before .before .before .before .before .before .before .before .before .args .work .now) (omega arith) refl)
+slice-aggregate-put-planned-7 c = sym (took (3 * c .before .before .before .before .before .before .before .pair-count .result) (c .before .before .before .before .before .before .before .before .before .before .before .before .before .before .before .before .before .before .before .before .before .before .before .args .work .now) (omega arith) refl)
 
 put-planned-requires : tie.Need-put-planned-requires
 put-planned-requires c κs = search needs
@@ -99,20 +99,20 @@ same-length-8 c = search needs
 
 returns : tie.Need-returns
 returns c =
-    let s = c .before .before .before .before .before .before .before .before .before .before .before .before .before .before .before .before .before .before .before .before .before .before .before .before .before .before .before .before .before .before .before .before .before .before .before .before .before .before .before in
-    let arrays = s .pre .1 in
+    let arrays = c .before .before .before .before .before .before .before .before .before .before .before .before .before .before .before .before .before .before .before .before .before .before .before .before .before .before .before .before .before .before .before .before .before .before .before .before .before .before .before .before .before .pre .1 in
+    let few = c .before .before .before .before .before .before .before .before .before .before .before .before .before .before .before .before .before .before .before .before .before .before .before .before .before .before .before .before .before .before .before .before .before .before .before .before .before .before .before .before .before .pre .0 .0 in
     let d = c .before .before .before .before .before .before .before .before .before .before .before .before .before .before .before .before .before .before .before .before .before .before .before .before .before .before .before .dof-places .ensures in
     let e = c .before .before .before .before .before .before .before .before .before .before .before .before .before .before .before .before .before .before .before .before .before .before .before .before .before .before .dof-places2 .ensures in
     let n = c .before .before .before .before .before .before .before .before .before .before .before .before .before .before .before .before .before .before .before .before .before .before .before .before .before .before .before .before .wide .ensures in
     let p = c .before .before .before .before .before .before .before .before .before .before .before .before .before .before .before .before .before .before .before .before .before .before .before .before .before .pair-count .ensures in
     short-wrote _ _ (c .before .before .before .before .before .before .before .before .before .before .before .before .before .before .before .before .put-planned .ensures)
-    (took (c .before .before .before .before .before .before .before .before .before .before .before .before .before .before .before .before .before .before .before .before .before .before .before .before .before .before .before .dof-places .result) (s .args .test-dofs .now) (omega arith) (d .0))
-    (took (c .before .before .before .before .before .before .before .before .before .before .before .before .before .before .before .before .before .before .before .before .before .before .before .before .before .before .dof-places2 .result) (s .args .trial-dofs .now) (omega arith) (e .0))
-    (took (c .before .before .before .before .before .before .before .before .before .before .before .before .before .before .before .before .before .before .before .before .before .before .before .before .before .before .before .before .wide .result) (s .args .test-colours .now) (omega arith) (n))
-    (took (c .before .before .before .before .before .before .before .before .before .before .before .before .before .before .before .before .before .before .before .before .before .before .before .before .before .before .before .before .wide .result) (s .args .trial-colours .now) (omega arith) (n))
-    (took (3 * c .before .before .before .before .before .before .before .before .before .before .before .before .before .before .before .before .before .before .before .before .before .before .before .before .before .before .before .dof-places .result) (s .args .test-owners .now) (omega arith) (ap (λ (k : ℕ). 3 * k) (d .0)))
-    (took (3 * c .before .before .before .before .before .before .before .before .before .before .before .before .before .before .before .before .before .before .before .before .before .before .before .before .before .before .dof-places2 .result) (s .args .trial-owners .now) (omega arith) (ap (λ (k : ℕ). 3 * k) (e .0)))
-    (took (3 * c .before .before .before .before .before .before .before .before .before .before .before .before .before .before .before .before .before .before .before .before .before .before .before .before .before .pair-count .result) (s .args .work .now) (omega arith) (ap (λ (k : ℕ). 3 * k) (p .0)))
+    (took (c .before .before .before .before .before .before .before .before .before .before .before .before .before .before .before .before .before .before .before .before .before .before .before .before .before .before .before .dof-places .result) (c .before .before .before .before .before .before .before .before .before .before .before .before .before .before .before .before .before .before .before .before .before .before .before .before .before .before .before .before .before .before .before .before .before .before .before .before .before .before .before .before .before .args .test-dofs .now) (omega arith) (d .0))
+    (took (c .before .before .before .before .before .before .before .before .before .before .before .before .before .before .before .before .before .before .before .before .before .before .before .before .before .before .dof-places2 .result) (c .before .before .before .before .before .before .before .before .before .before .before .before .before .before .before .before .before .before .before .before .before .before .before .before .before .before .before .before .before .before .before .before .before .before .before .before .before .before .before .before .before .args .trial-dofs .now) (omega arith) (e .0))
+    (took (c .before .before .before .before .before .before .before .before .before .before .before .before .before .before .before .before .before .before .before .before .before .before .before .before .before .before .before .before .wide .result) (c .before .before .before .before .before .before .before .before .before .before .before .before .before .before .before .before .before .before .before .before .before .before .before .before .before .before .before .before .before .before .before .before .before .before .before .before .before .before .before .before .before .args .test-colours .now) (omega (arith, n, few, arrays .test-colours)) n)
+    (took (c .before .before .before .before .before .before .before .before .before .before .before .before .before .before .before .before .before .before .before .before .before .before .before .before .before .before .before .before .wide .result) (c .before .before .before .before .before .before .before .before .before .before .before .before .before .before .before .before .before .before .before .before .before .before .before .before .before .before .before .before .before .before .before .before .before .before .before .before .before .before .before .before .before .args .trial-colours .now) (omega (arith, n, few, arrays .trial-colours)) n)
+    (took (3 * c .before .before .before .before .before .before .before .before .before .before .before .before .before .before .before .before .before .before .before .before .before .before .before .before .before .before .before .dof-places .result) (c .before .before .before .before .before .before .before .before .before .before .before .before .before .before .before .before .before .before .before .before .before .before .before .before .before .before .before .before .before .before .before .before .before .before .before .before .before .before .before .before .before .args .test-owners .now) (omega arith) (ap (λ (k : ℕ). 3 * k) (d .0)))
+    (took (3 * c .before .before .before .before .before .before .before .before .before .before .before .before .before .before .before .before .before .before .before .before .before .before .before .before .before .before .dof-places2 .result) (c .before .before .before .before .before .before .before .before .before .before .before .before .before .before .before .before .before .before .before .before .before .before .before .before .before .before .before .before .before .before .before .before .before .before .before .before .before .before .before .before .before .args .trial-owners .now) (omega arith) (ap (λ (k : ℕ). 3 * k) (e .0)))
+    (took (3 * c .before .before .before .before .before .before .before .before .before .before .before .before .before .before .before .before .before .before .before .before .before .before .before .before .before .pair-count .result) (c .before .before .before .before .before .before .before .before .before .before .before .before .before .before .before .before .before .before .before .before .before .before .before .before .before .before .before .before .before .before .before .before .before .before .before .before .before .before .before .before .before .args .work .now) (omega arith) (ap (λ (k : ℕ). 3 * k) (p .0)))
 
 pub put-sized-spec : {M : Type 1} → statement M
 put-sized-spec =
