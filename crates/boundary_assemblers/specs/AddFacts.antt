@@ -1,4 +1,4 @@
--- What an add needs where nothing turns it down, and what it comes to. Assumes nothing.
+-- What an add needs where nothing turns it down, the ways it ends, and what it comes to. Assumes nothing.
 use Prim.Native.Nat.{ℕ, zero, suc, _+_, _*_, _<_}
 use native.Mathlib.Omega.{arith}
 use mathlib.Core.Path.{_≡_, refl, sym, ap, _∙_}
@@ -8,7 +8,7 @@ use lib.ListN.{length}
 use lib.Ieee.{Float}
 use borrow.Author.Tests.{eqb-true, not-true, not-false}
 use Rattle.lists.specs.Bool.{_and_}
-use Rattle.lists.specs.Refusals.{Check, check, refusal, refusal-first, refusal-rest, refusal-fails, refusal-passes, refusal-zero, answers, accepted as pass, _then_}
+use Rattle.lists.specs.Refusals.{Check, check, refusal, refusal-first, refusal-rest, refusal-fails, refusal-passes}
 use Rattle.numbers.specs.Ranges.{below-at}
 use Rattle.numbers.specs.Floats.{_!_}
 use Rattle.scatter.specs.Adding.{addLocal}
@@ -16,96 +16,90 @@ use Rattle.scatter.specs.AddingFacts.{addLocal-ext}
 use Rattle.scatter.specs.Entries.{entryAt, AddFits}
 use Rattle.work_records.specs.declared.WorkRecord.{WorkRecord}
 use Rattle.plans.specs.Planning.{unlessRefused}
-use Rattle.runs.specs.Runs.{Run, Plan, Reply, accepted, refused, reply, testDim, trialDim, recordOf, testDofsOf, trialDofsOf, matrixRight, stateChecks, callChecks, advance}
+use Rattle.runs.specs.Runs.{Run, Plan, Reply, Answer, accepted, refused, reply, testDim, trialDim, recordOf, testDofsOf, trialDofsOf, matrixRight, stateChecks, callChecks, advance}
 use Rattle.runs.specs.CellDofs.{cell-fits, length-cell-is}
-use Rattle.boundary_assemblers.specs.RunFacts.{Standing, reply-refused}
+use Rattle.boundary_assemblers.specs.RunFacts.{testDofsAt, trialDofsAt, state-refused, state-passed, Standing, standing, reply-refused}
+use Rattle.boundary_assemblers.specs.Forms.{stateChecked}
+use Rattle.boundary_assemblers.specs.declared.Checked.the-variants.{Passed, Refused}
 
 -- ---- the DOFs of the two cells
 
-module _ {r : Run} {l : Plan} {sized : Bool} (h : Standing r l sized) where
-  pub test-long : length (testDofsOf r l) ≡ testDim r
-  test-long = length-cell-is (l .testDofs) (testDim r) _ (cell-fits (r .numbers .cells) _ _ _ (h .lengths .testDofs) (h .known .test))
+module _ {r : Run} {ts us : List ℕ} {e : WorkRecord} {sized : Bool} (h : Standing r ts us e sized) where
+  pub test-long : length (testDofsAt r ts e) ≡ testDim r
+  test-long = length-cell-is ts (testDim r) _ (cell-fits (r .numbers .cells) _ _ _ (h .lengths .test) (h .known .test))
 
-  pub trial-long : length (trialDofsOf r l) ≡ trialDim r
-  trial-long = length-cell-is (l .trialDofs) (trialDim r) _ (cell-fits (r .numbers .cells) _ _ _ (h .lengths .trialDofs) (h .known .trial))
+  pub trial-long : length (trialDofsAt r us e) ≡ trialDim r
+  trial-long = length-cell-is us (trialDim r) _ (cell-fits (r .numbers .cells) _ _ _ (h .lengths .trial) (h .known .trial))
 
 -- the matrix has room for each entry
-pub add-fits : {r : Run} {l : Plan} {M : List Float} → Standing r l (matrixRight r M) → AddFits M (r .numbers .rows) (r .numbers .columns) (testDofsOf r l) (trialDofsOf r l)
+pub add-fits : {r : Run} {ts us : List ℕ} {e : WorkRecord} {M : List Float} → Standing r ts us e (matrixRight r M)
+    → AddFits M (r .numbers .rows) (r .numbers .columns) (testDofsAt r ts e) (trialDofsAt r us e)
 unfolding matrixRight
-add-fits {r} {l} {M} h =
+add-fits {r} {ts} {us} {e} {M} h =
     record {
       size = eqb-true _ _ (h .size);
-      test = below-at (testDofsOf r l) (r .numbers .rows) (h .test-below);
-      trial = below-at (trialDofsOf r l) (r .numbers .columns) (h .trial-below);
+      test = below-at (testDofsAt r ts e) (r .numbers .rows) (h .test-below);
+      trial = below-at (trialDofsAt r us e) (r .numbers .columns) (h .trial-below);
       few = omega (arith, test-long h, h .ranges .test);
       few-trial = omega (arith, trial-long h, h .ranges .trial);
     }
 
--- ---- 23, and 9 to 11, behind the checks of the state
+-- ---- the four ways a call that writes ends; P: the call's test of a pattern, run: the run is of the call's kind
 
-module _ (r : Run) (l : Plan) (sized kind : Bool) (numbers : List Check) where
-  pub state-fails : (v : ℕ) → v ≡ refusal (stateChecks r l sized) → (v ≡ 0 → ⊥) → v ≡ refusal (callChecks r l sized kind numbers)
-  state-fails v e h = refusal-first (stateChecks r l sized) (check 23 kind ∷ numbers) v e h
+module _ {A : Type 0} (r : Run) (l : Plan) (sized run : Bool) (numbers : List Check) (P : ℕ → Bool) (M new : A) where
+  abbrev number : ℕ
+  number = refusal (callChecks r l sized (P (recordOf r l .pattern) and run) numbers)
 
-  state-passes : refusal (stateChecks r l sized) ≡ 0 → refusal (callChecks r l sized kind numbers) ≡ refusal (check 23 kind ∷ numbers)
-  state-passes e = refusal-rest (stateChecks r l sized) (check 23 kind ∷ numbers) e refl
+  -- the run and the answer that are handed back, and what is written
+  abbrev Ends : Run → Answer → A → Type 0
+  Ends next a M′ = (_≡_ {A = Reply} (record { run = next; answer = a }) (reply number r (advance r) accepted)) × (M′ ≡ unlessRefused number new M)
 
-  kind-fails : refusal (stateChecks r l sized) ≡ 0 → kind ≡ false → 23 ≡ refusal (callChecks r l sized kind numbers)
-  kind-fails e h = sym (state-passes e ∙ refusal-fails 23 _ _ h)
+  refuses : (v : ℕ) → v ≡ number → (v ≡ 0 → ⊥) → Ends r (refused v) M
+  refuses v e h = (reply-refused v number r (advance r) accepted e h, rw (← e) (go v h))
+    where
+      go : (v : ℕ) → (v ≡ 0 → ⊥) → M ≡ unlessRefused v new M
+      go zero h = absurd (h refl)
+      go (suc v) h = refl
 
-  numbers-answer : (v : ℕ) → refusal (stateChecks r l sized) ≡ 0 → kind ≡ true → v ≡ refusal numbers → v ≡ refusal (callChecks r l sized kind numbers)
-  numbers-answer v e h n = n ∙ sym (state-passes e ∙ refusal-passes 23 _ _ h)
+  -- 21, 20 or 22 turns the call down
+  pub by-state : {v : ℕ} → Refused v ≡ stateChecked r l sized → Ends r (refused v) M
+  by-state {v} h = let s = state-refused r l sized h in refuses v (refusal-first (stateChecks r l sized) (check 23 (P (recordOf r l .pattern) and run) ∷ numbers) v (s .0) (s .1)) (s .1)
 
-  -- nothing turns the call down
-  pub record AllPass : Type 0 where
-    pub state : refusal (stateChecks r l sized) ≡ 0
-    pub right : kind ≡ true
-    pub rest : refusal numbers ≡ 0
+  module _ {e : WorkRecord} (s : Passed e ≡ stateChecked r l sized) where
+    behind : number ≡ refusal (check 23 (P (e .pattern) and run) ∷ numbers)
+    behind = let c = state-passed r l sized s in rw (c .1, refusal-rest (stateChecks r l sized) (check 23 (P (recordOf r l .pattern) and run) ∷ numbers) (c .0) refl)
 
-  pub all-pass : refusal (callChecks r l sized kind numbers) ≡ 0 → AllPass
-  all-pass e =
-      let c₁ = refusal-zero 20 _ _ e in
-      let c₂ = refusal-zero 19 _ _ (c₁ .1) in
-      let c₃ = refusal-zero 21 _ _ (c₂ .1) in
-      let c₄ = refusal-zero 22 _ _ (c₃ .1) in
-      record { state = sym (answers (c₁ .0 then c₂ .0 then c₃ .0 then pass)); right = c₄ .0; rest = c₄ .1 }
+    -- 23 does
+    pub by-kind : not (P (e .pattern) and run) ≡ true → Ends r (refused 23) M
+    by-kind h = refuses 23 (sym (behind ∙ refusal-fails 23 _ numbers (not-true _ h))) (λ z. omega arith)
 
--- the same by the record e that the code read, and the test P of its pattern
-module _ (r : Run) (l : Plan) (sized run : Bool) (numbers : List Check) (P : ℕ → Bool) (e : WorkRecord) (q : e ≡ recordOf r l) where
-  pub other-kind : refusal (stateChecks r l sized) ≡ 0 → not (P (e .pattern) and run) ≡ true
-      → 23 ≡ refusal (callChecks r l sized (P (recordOf r l .pattern) and run) numbers)
-  other-kind z h = rw (← q) (kind-fails r l sized (P (e .pattern) and run) numbers z (not-true _ h))
+    module _ (k : not (P (e .pattern) and run) ≡ false) (v : ℕ) (n : v ≡ refusal numbers) where
+      last : v ≡ number
+      last = n ∙ sym (behind ∙ refusal-passes 23 _ numbers (not-false _ k))
 
-  pub its-kind : (v : ℕ) → refusal (stateChecks r l sized) ≡ 0 → not (P (e .pattern) and run) ≡ false → v ≡ refusal numbers
-      → v ≡ refusal (callChecks r l sized (P (recordOf r l .pattern) and run) numbers)
-  its-kind v z h n = rw (← q) (numbers-answer r l sized (P (e .pattern) and run) numbers v z (not-false _ h) n)
+      -- one of 9 to 11 does
+      pub by-numbers : (v ≡ 0 → ⊥) → Ends r (refused v) M
+      by-numbers h = refuses v last h
 
--- ---- the two ways an add ends
-
-pub add-refused : {A : Type 0} (r : Run) (M new : A) (v n : ℕ) → v ≡ n → (v ≡ 0 → ⊥)
-    → (_≡_ {A = Reply} (record { run = r; answer = refused v }) (reply n r (advance r) accepted)) × (M ≡ unlessRefused n new M)
-add-refused {A} r M new v n e h = (reply-refused v n r (advance r) accepted e h, rw (← e) (go v h))
-  where
-    go : (v : ℕ) → (v ≡ 0 → ⊥) → M ≡ unlessRefused v new M
-    go zero h = absurd (h refl)
-    go (suc v) h = refl
-
-pub add-accepted : {A : Type 0} (r run : Run) (M M′ new : A) (n : ℕ) → n ≡ 0 → run ≡ advance r → M′ ≡ new
-    → (_≡_ {A = Reply} (record { run = run; answer = accepted }) (reply n r (advance r) accepted)) × (M′ ≡ unlessRefused n new M)
-add-accepted r run M M′ new n e a w = rw (e, a, w) (refl, refl)
+      -- none does
+      pub by-none : v ≡ 0 → {next : Run} {M′ : A} → next ≡ advance r → M′ ≡ new → Ends next accepted M′
+      by-none z a w = rw (sym last ∙ z, a, w) (refl, refl)
 
 -- the sum of the entries that the local matrix holds is that of the local entries
-pub sum-is : {r : Run} {l : Plan} {sized : Bool} → Standing r l sized → (M : List Float) {M′ : List Float} (entries : List Float) (entry : ℕ → ℕ → Float)
+pub sum-is : (r : Run) (l : Plan) (sized : Bool) {e : WorkRecord} → Passed e ≡ stateChecked r l sized
+    → (M : List Float) {M′ : List Float} (entries : List Float) (entry : ℕ → ℕ → Float)
     → ((i j : ℕ) → i < testDim r → j < trialDim r → entries ! (i + testDim r * j) ≡ entry i j)
-    → M′ ≡ addLocal (entryAt entries (testDim r)) (r .numbers .rows) (testDofsOf r l) (trialDofsOf r l) M
+    → M′ ≡ addLocal (entryAt entries (testDim r)) (r .numbers .rows) (testDofsAt r (l .testDofs) e) (trialDofsAt r (l .trialDofs) e) M
     → M′ ≡ addLocal entry (r .numbers .rows) (testDofsOf r l) (trialDofsOf r l) M
-sum-is {r} {l} h M entries entry each w =
-    w ∙ addLocal-ext (entryAt entries (testDim r)) entry (r .numbers .rows) (testDofsOf r l) (trialDofsOf r l)
-    (λ i j hi hj. each i j (omega (arith, test-long h)) (omega (arith, trial-long h))) M
+sum-is r l sized {e} s M entries entry each w =
+    let h = standing r l sized s in
+    rw (← state-passed r l sized s .1)
+    (w ∙ addLocal-ext (entryAt entries (testDim r)) entry (r .numbers .rows) (testDofsAt r (l .testDofs) e) (trialDofsAt r (l .trialDofs) e)
+    (λ i j hi hj. each i j (omega (arith, test-long h)) (omega (arith, trial-long h))) M)
 
 -- the local matrix is read by the test element's dim
-pub by-dim : {r : Run} {l : Plan} {sized : Bool} → Standing r l sized → (M : List Float) {M′ : List Float} (entries : List Float)
-    → M′ ≡ addLocal (entryAt entries (length (testDofsOf r l))) (r .numbers .rows) (testDofsOf r l) (trialDofsOf r l) M
-    → M′ ≡ addLocal (entryAt entries (testDim r)) (r .numbers .rows) (testDofsOf r l) (trialDofsOf r l) M
-by-dim {r} {l} h M entries w =
-    w ∙ ap (λ (n : ℕ). addLocal (entryAt entries n) (r .numbers .rows) (testDofsOf r l) (trialDofsOf r l) M) (test-long h)
+pub by-dim : {r : Run} {ts us : List ℕ} {e : WorkRecord} {sized : Bool} → Standing r ts us e sized → (M : List Float) {M′ : List Float} (entries : List Float)
+    → M′ ≡ addLocal (entryAt entries (length (testDofsAt r ts e))) (r .numbers .rows) (testDofsAt r ts e) (trialDofsAt r us e) M
+    → M′ ≡ addLocal (entryAt entries (testDim r)) (r .numbers .rows) (testDofsAt r ts e) (trialDofsAt r us e) M
+by-dim {r} {ts} {us} {e} h M entries w =
+    w ∙ ap (λ (n : ℕ). addLocal (entryAt entries n) (r .numbers .rows) (testDofsAt r ts e) (trialDofsAt r us e) M) (test-long h)

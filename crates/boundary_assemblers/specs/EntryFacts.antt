@@ -10,25 +10,30 @@ use lib.Seq.{sets}
 use lib.Ieee.{Float}
 use borrow.Author.Tests.{eqb-true}
 use Rattle.lists.specs.Bool.{_and_, every, every-at}
-use Rattle.lists.specs.Refusals.{Check, check, refusal, unless}
+use Rattle.lists.specs.Refusals.{check, refusal, unless}
 use Rattle.function.specs.Elements.{mostDim}
 use Rattle.numbers.specs.Floats.{_!_}
 use Rattle.scatter.specs.Adding.{localRows, localColumns, localValues}
 use Rattle.scatter.specs.AddingFacts.{localValues-ext}
 use Rattle.scatter.specs.Entries.{entryAt}
-use Rattle.runs.specs.Runs.{Run, Plan, EntryLists, entryLists, written, pairs, testDim, trialDim, testDofsOf, trialDofsOf, rangesRight, placesRight, planRight, pairLeft, recordRight, entriesRight, callChecks, entryPlace}
-use Rattle.boundary_assemblers.specs.RunFacts.{mostPairs, Standing}
+use Rattle.runs.specs.Runs.{Run, Plan, EntryLists, entryLists, written, pairs, testDim, trialDim, recordOf, rangesRight, placesRight, planRight, pairLeft, recordRight, entriesRight, entryPlace}
+use Rattle.boundary_assemblers.specs.RunFacts.{mostPairs, testDofsAt, trialDofsAt, state-passed, Standing}
+use Rattle.boundary_assemblers.specs.Forms.{checked, stateChecked}
+use Rattle.boundary_assemblers.specs.declared.Checked.{Checked}
+use Rattle.boundary_assemblers.specs.declared.Checked.the-variants.{Passed}
+use Rattle.work_records.specs.declared.WorkRecord.{WorkRecord}
 
 -- 21 reads ranges and places first, so that it does no harm to read them again with the entry lists
-pub sized-same : (r : Run) (l : Plan) (e kind : Bool) (numbers : List Check)
-    → refusal (callChecks r l (every (rangesRight r ∷ placesRight r ∷ e ∷ [])) kind numbers) ≡ refusal (callChecks r l e kind numbers)
-unfolding refusal unless every _and_
-sized-same r l e kind numbers = ap (λ (b : Bool). unless b 21 (refusal (check 20 (pairLeft r) ∷ check 22 (recordRight r l) ∷ check 23 kind ∷ numbers))) (go (rangesRight r) (placesRight r) (planRight r l))
+pub sized-same : (r : Run) (l : Plan) (b : Bool) {c : Checked} → c ≡ stateChecked r l (every (rangesRight r ∷ placesRight r ∷ b ∷ [])) → c ≡ stateChecked r l b
+unfolding stateChecked refusal unless every _and_
+sized-same r l b h =
+    h ∙ ap (λ (x : Bool). checked (unless x 21 (refusal (check 20 (pairLeft r) ∷ check 22 (recordRight r l) ∷ []))) (recordOf r l))
+    (go (rangesRight r) (placesRight r) (planRight r l))
   where
-    go : (a b c : Bool) → (a and b and c and (a and b and e)) ≡ (a and b and c and e)
-    go true true c = refl
-    go true false c = refl
-    go false b c = refl
+    go : (x y z : Bool) → (x and y and z and (x and y and b)) ≡ (x and y and z and b)
+    go true true z = refl
+    go true false z = refl
+    go false y z = refl
 
 -- ---- the place of the entries
 
@@ -44,16 +49,15 @@ pub record Fit (r : Run) (e : EntryLists) : Type 0 where
   pub columns : entryPlace r + testDim r * trialDim r ≤ length (e .columns)
   pub values : entryPlace r + testDim r * trialDim r ≤ length (e .values)
 
-pub entries-fit : {r : Run} {l : Plan} (e : EntryLists) → Standing r l (every (rangesRight r ∷ placesRight r ∷ entriesRight r e ∷ [])) → r .numbers .distant ≤ r .position → Fit r e
+pub entries-fit : {r : Run} {ts us : List ℕ} {e : WorkRecord} (lists : EntryLists) → Standing r ts us e (entriesRight r lists) → r .numbers .distant ≤ r .position → Fit r lists
 unfolding entriesRight
-entries-fit {r} e h from =
-    let all = every-at _ (h .size) 2 in
+entries-fit {r} lists h from =
     let one : (size : ℕ) → size ≡ (pairs (r .numbers) - r .numbers .distant) * testDim r * trialDim r → entryPlace r + testDim r * trialDim r ≤ size =
     λ size q. fits (r .position) (r .numbers .distant) (pairs (r .numbers)) (testDim r) (trialDim r) size from (h .below) q in
     record {
-      rows = one (length (e .rows)) (eqb-true _ _ (every-at _ all 0));
-      columns = one (length (e .columns)) (eqb-true _ _ (every-at _ all 1));
-      values = one (length (e .values)) (eqb-true _ _ (every-at _ all 2));
+      rows = one (length (lists .rows)) (eqb-true _ _ (every-at _ (h .size) 0));
+      columns = one (length (lists .columns)) (eqb-true _ _ (every-at _ (h .size) 1));
+      values = one (length (lists .values)) (eqb-true _ _ (every-at _ (h .size) 2));
     }
 
 -- where ranges and places are right, the lengths of the lists decide
@@ -72,20 +76,21 @@ few x m n h p q = record { one = mul-le-mul h p; two = mul-le-mul (mul-le-mul h 
 
 -- ---- what is written
 
+-- row, column and value of each local entry, by the DOFs of the two cells
+abbrev pub writtenAt : Run → List ℕ → List ℕ → (ℕ → ℕ → Float) → EntryLists → EntryLists
+writtenAt r ts us entry e =
+    entryLists (sets (e .rows) (entryPlace r) (localRows ts us)) (sets (e .columns) (entryPlace r) (localColumns ts us)) (sets (e .values) (entryPlace r) (localValues entry (testDim r) (trialDim r)))
+
 -- by the local matrix of the record's pair
-pub values-are : (r : Run) (l : Plan) (e : EntryLists) (entries : List Float) (entry : ℕ → ℕ → Float)
+pub values-are : (r : Run) (l : Plan) (sized : Bool) {e : WorkRecord} → Passed e ≡ stateChecked r l sized
+    → (lists : EntryLists) (entries : List Float) (entry : ℕ → ℕ → Float)
     → ((i j : ℕ) → i < testDim r → j < trialDim r → entries ! (i + testDim r * j) ≡ entry i j)
-    → written r l (entryAt entries (testDim r)) e ≡ written r l entry e
-values-are r l e entries entry each =
-    ap
-    (λ (v : List Float).
-    entryLists (sets (e .rows) (entryPlace r) (localRows (testDofsOf r l) (trialDofsOf r l)))
-    (sets (e .columns) (entryPlace r) (localColumns (testDofsOf r l) (trialDofsOf r l))) (sets (e .values) (entryPlace r) v))
-    (localValues-ext (entryAt entries (testDim r)) entry (testDim r) (trialDim r) each)
+    → writtenAt r (testDofsAt r (l .testDofs) e) (trialDofsAt r (l .trialDofs) e) (entryAt entries (testDim r)) lists ≡ written r l entry lists
+values-are r l sized s lists entries entry each = rw (state-passed r l sized s .1, localValues-ext (entryAt entries (testDim r)) entry (testDim r) (trialDim r) each)
 
 -- by what the code has in hand
-pub written-is : (r : Run) (l : Plan) (e : EntryLists) (entries : List Float) {at m n : ℕ} {ts rs rows columns : List ℕ} {values : List Float}
-    → at ≡ entryPlace r → ts ≡ testDofsOf r l → rs ≡ trialDofsOf r l → m ≡ testDim r → n ≡ trialDim r
-    → rows ≡ sets (e .rows) at (localRows ts rs) → columns ≡ sets (e .columns) at (localColumns ts rs) → values ≡ sets (e .values) at (localValues (entryAt entries m) m n)
-    → entryLists rows columns values ≡ written r l (entryAt entries (testDim r)) e
-written-is r l e entries a t u m n x y z = rw (x, y, z, a, t, u, m, n)
+pub written-is : (r : Run) (lists : EntryLists) (entries : List Float) {at m n : ℕ} {ts us ts′ us′ rows columns : List ℕ} {values : List Float}
+    → at ≡ entryPlace r → ts ≡ ts′ → us ≡ us′ → m ≡ testDim r → n ≡ trialDim r
+    → rows ≡ sets (lists .rows) at (localRows ts us) → columns ≡ sets (lists .columns) at (localColumns ts us) → values ≡ sets (lists .values) at (localValues (entryAt entries m) m n)
+    → entryLists rows columns values ≡ writtenAt r ts′ us′ (entryAt entries (testDim r)) lists
+written-is r lists entries a t u m n x y z = rw (x, y, z, a, t, u, m, n)

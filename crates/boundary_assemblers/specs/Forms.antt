@@ -1,8 +1,12 @@
 -- What the program's structs and enums stand for: for each case of an enum the paper's answer, and the run that is handed back. Assumes nothing.
+use Prim.Native.Nat.{ℕ, zero, suc}
+use mathlib.Core.Bool.{Bool}
+use Rattle.lists.specs.Refusals.{refusal}
+use Rattle.work_records.specs.declared.WorkRecord.{WorkRecord}
 use Rattle.plans.specs.Planning as Plans
 use Rattle.plans.specs.Planning.{ready, refused}
 use Rattle.runs.specs.Runs as Runs
-use Rattle.runs.specs.Runs.{Reply, found, accepted}
+use Rattle.runs.specs.Runs.{Plan, Reply, found, accepted, recordOf, stateChecks}
 use Rattle.boundary_assemblers.specs.declared.PlanNumbers.{PlanNumbers}
 use Rattle.boundary_assemblers.specs.declared.Planned.{Planned}
 use Rattle.boundary_assemblers.specs.declared.Planned.the-variants.{Ready, Refused as PlanRefused}
@@ -11,6 +15,8 @@ use Rattle.boundary_assemblers.specs.declared.Looked.{Looked}
 use Rattle.boundary_assemblers.specs.declared.Looked.the-variants.{Found, Refused as LookRefused}
 use Rattle.boundary_assemblers.specs.declared.Added.{Added}
 use Rattle.boundary_assemblers.specs.declared.Added.the-variants.{Accepted, Refused as AddRefused}
+use Rattle.boundary_assemblers.specs.declared.Checked.{Checked}
+use Rattle.boundary_assemblers.specs.declared.Checked.the-variants.{Passed, Refused as CheckRefused}
 
 abbrev pub numbersOf : PlanNumbers → Plans.PlanNumbers
 numbersOf n =
@@ -44,3 +50,11 @@ lookedOf (LookRefused r n) = record { run = runOf r; answer = Runs.refused n }
 abbrev pub addedOf : Added → Reply
 addedOf (Accepted r) = record { run = runOf r; answer = accepted }
 addedOf (AddRefused r n) = record { run = runOf r; answer = Runs.refused n }
+
+-- what the checks of the state hand back, by the refusal's number: 0 is no refusal
+unfoldable pub checked : ℕ → WorkRecord → Checked
+checked zero e = Passed e
+checked (suc n) e = CheckRefused (suc n)
+
+unfoldable pub stateChecked : Runs.Run → Plan → Bool → Checked
+stateChecked r l sized = checked (refusal (stateChecks r l sized)) (recordOf r l)

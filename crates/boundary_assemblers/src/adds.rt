@@ -1,5 +1,6 @@
 // The adds: the local matrix of the pair at the run's position goes into the matrix.
 use crate::Added;
+use crate::Checked;
 use crate::Run;
 use crate::calls::cell_dofs;
 use cell_pair_assemblers::LocalMatrix;
@@ -11,26 +12,15 @@ use numbers::wide;
 use scatter::add_local;
 use work_records::DISTANT;
 use work_records::NO_PATTERN;
-use work_records::record_at;
+use work_records::WorkRecord;
 ghost use mathlib.Core.Path.{_≡_};
-ghost use mathlib.Core.Bool.{not};
-ghost use Prim.Native.Nat.{_*_, _<_};
-ghost use Rattle.lists.specs.Bool.{_and_};
-ghost use Rattle.lists.specs.Refusals.{refusal};
-ghost use Rattle.lent_numbers.specs.Lent.{touchingChecks, distantChecks};
+ghost use Prim.Native.Nat.{_<_};
 ghost use Rattle.lent_numbers.specs.Lent.{touching, distant};
 ghost use Rattle.scatter.specs.Adding.{addLocal};
 ghost use Rattle.scatter.specs.Entries.{entryAt};
-ghost use Rattle.runs.specs.Runs.{testDim, trialDim, recordOf, testDofsOf, trialDofsOf, isTouching, isDistant, callChecks, matrixRight, advance, addTouching, touchingMatrix, addDistant, distantMatrix, planOf};
+ghost use Rattle.runs.specs.Runs.{testDim, matrixRight, advance, addTouching, touchingMatrix, addDistant, distantMatrix, planOf};
 ghost use Rattle.boundary_assemblers.specs.Forms.{runOf, addedOf};
-ghost use Rattle.boundary_assemblers.specs.RunFacts.{mostPairs, Standing};
-
-// A product of two u32, which fits.
-fn product(a: u32, b: u32) -> usize
-    ensures { λ r. ⌜ r ≡ a * b ⌝ }
-{
-    (a as usize) * (b as usize)
-}
+ghost use Rattle.boundary_assemblers.specs.RunFacts.{mostPairs, testDofsAt, trialDofsAt, Standing};
 
 impl Run {
     // 21: the matrix has its length.
@@ -38,7 +28,7 @@ impl Run {
         ensures { λ r. ⌜ r ≡ matrixRight (runOf self) (now (matrix .entry)) ⌝ }
     {
         let n = self.numbers;
-        matrix.len() == product(n.rows, n.columns)
+        matrix.len() == wide(n.rows) * wide(n.columns)
     }
 
     // The run at the next record.
@@ -54,24 +44,22 @@ impl Run {
         }
     }
 
-    // Adds a local matrix at the DOFs of the two cells of record p.
+    // Adds a local matrix at the DOFs of the two cells of a record.
     fn add_matrix(
         self,
         test_dofs: &[u32],
         trial_dofs: &[u32],
-        work: &[u32],
+        e: WorkRecord,
         local: LocalMatrix,
         matrix: &mut [f64],
     )
-        requires { ⌜ Standing (runOf self) (planOf (now «test_dofs») (now «trial_dofs») (now work)) (matrixRight (runOf self) (now matrix)) ⌝ }
+        requires { ⌜ Standing (runOf self) (now «test_dofs») (now «trial_dofs») e (matrixRight (runOf self) (now matrix)) ⌝ }
         ensures { λ _. ⌜ now (matrix .exit) ≡ addLocal (entryAt (local .entries) (testDim (runOf self))) (self .numbers .rows)
-            (testDofsOf (runOf self) (planOf (now («test_dofs» .entry)) (now («trial_dofs» .entry)) (now (work .entry))))
-            (trialDofsOf (runOf self) (planOf (now («test_dofs» .entry)) (now («trial_dofs» .entry)) (now (work .entry)))) (now (matrix .entry)) ⌝ }
+            (testDofsAt (runOf self) (now («test_dofs» .entry)) e) (trialDofsAt (runOf self) (now («trial_dofs» .entry)) e) (now (matrix .entry)) ⌝ }
     {
         let n = self.numbers;
         let test = n.test;
         let trial = n.trial;
-        let e = record_at(work, wide(self.position));
         let rows = cell_dofs(test_dofs, test.dim(), wide(e.test));
         let columns = cell_dofs(trial_dofs, trial.dim(), wide(e.trial));
         let entries = local.entries;
@@ -85,54 +73,7 @@ impl Run {
         );
     }
 
-    // 21, 20, 22, 23, then 9 to 11 of a touching record. `sized`: what is lent beside the plan has its length; `kind`: the run is of the call's kind.
-    pub(crate) fn touching_call_refusal(
-        self,
-        test_dofs: &[u32],
-        trial_dofs: &[u32],
-        work: &[u32],
-        sized: bool,
-        kind: bool,
-        points: usize,
-        weights: &[f64],
-        test_table: &[f64],
-        trial_table: &[f64],
-        kernel: &[f64],
-        test_geometry: &[f64],
-        trial_geometry: &[f64],
-    ) -> u32
-        ensures { λ r. ⌜ r ≡ refusal (callChecks (runOf self) (planOf (now («test_dofs» .entry)) (now («trial_dofs» .entry)) (now (work .entry))) sized
-            (isTouching (recordOf (runOf self) (planOf (now («test_dofs» .entry)) (now («trial_dofs» .entry)) (now (work .entry))) .pattern) and kind)
-            (touchingChecks (self .numbers .integrand) (testDim (runOf self)) (trialDim (runOf self))
-            (touching points (now (weights .entry)) (now («test_table» .entry)) (now («trial_table» .entry)) (now (kernel .entry)) (now («test_geometry» .entry)) (now («trial_geometry» .entry))))) ⌝ }
-    {
-        let v = self.state_refusal(test_dofs, trial_dofs, work, sized);
-        if v != 0 {
-            return v;
-        }
-        let e = record_at(work, wide(self.position));
-        if !((e.pattern < NO_PATTERN) & kind) {
-            return 23;
-        }
-        let n = self.numbers;
-        let f = n.integrand;
-        let test = n.test;
-        let trial = n.trial;
-        touching_refusal(
-            f,
-            test.dim(),
-            trial.dim(),
-            points,
-            weights,
-            test_table,
-            trial_table,
-            kernel,
-            test_geometry,
-            trial_geometry,
-        )
-    }
-
-    // Adds the local matrix of a touching pair.
+    // Adds the local matrix of a touching pair. Checks 21, 20, 22, 23, then 9 to 11.
     pub fn add_touching(
         self,
         test_dofs: &[u32],
@@ -153,94 +94,52 @@ impl Run {
             (touching points (now (weights .entry)) (now («test_table» .entry)) (now («trial_table» .entry)) (now (kernel .entry)) (now («test_geometry» .entry)) (now («trial_geometry» .entry))) ⌝ }
     {
         let sized = self.matrix_right(matrix);
-        let v = self.touching_call_refusal(
-            test_dofs,
-            trial_dofs,
-            work,
-            sized,
-            !self.entries,
-            points,
-            weights,
-            test_table,
-            trial_table,
-            kernel,
-            test_geometry,
-            trial_geometry,
-        );
-        if v != 0 {
-            return Added::Refused(self, v);
+        match self.state_checked(test_dofs, trial_dofs, work, sized) {
+            Checked::Refused(v) => Added::Refused(self, v),
+            Checked::Passed(e) => {
+                if !((e.pattern < NO_PATTERN) & !self.entries) {
+                    return Added::Refused(self, 23);
+                }
+                let n = self.numbers;
+                let f = n.integrand;
+                let test = n.test;
+                let trial = n.trial;
+                let test_dim = test.dim();
+                let trial_dim = trial.dim();
+                let v = touching_refusal(
+                    f,
+                    test_dim,
+                    trial_dim,
+                    points,
+                    weights,
+                    test_table,
+                    trial_table,
+                    kernel,
+                    test_geometry,
+                    trial_geometry,
+                );
+                if v != 0 {
+                    return Added::Refused(self, v);
+                }
+                let local = touching_matrix(
+                    f,
+                    test_dim,
+                    trial_dim,
+                    points,
+                    weights,
+                    test_table,
+                    trial_table,
+                    kernel,
+                    test_geometry,
+                    trial_geometry,
+                );
+                self.add_matrix(test_dofs, trial_dofs, e, local, matrix);
+                Added::Accepted(self.advanced())
+            }
         }
-        let n = self.numbers;
-        let f = n.integrand;
-        let test = n.test;
-        let trial = n.trial;
-        let local = touching_matrix(
-            f,
-            test.dim(),
-            trial.dim(),
-            points,
-            weights,
-            test_table,
-            trial_table,
-            kernel,
-            test_geometry,
-            trial_geometry,
-        );
-        self.add_matrix(test_dofs, trial_dofs, work, local, matrix);
-        Added::Accepted(self.advanced())
     }
 
-    // 21, 20, 22, 23, then 9 to 11 of a distant record.
-    fn distant_call_refusal(
-        self,
-        test_dofs: &[u32],
-        trial_dofs: &[u32],
-        work: &[u32],
-        sized: bool,
-        test_points: usize,
-        trial_points: usize,
-        test_weights: &[f64],
-        trial_weights: &[f64],
-        test_table: &[f64],
-        trial_table: &[f64],
-        kernel: &[f64],
-        test_geometry: &[f64],
-        trial_geometry: &[f64],
-    ) -> u32
-        ensures { λ r. ⌜ r ≡ refusal (callChecks (runOf self) (planOf (now («test_dofs» .entry)) (now («trial_dofs» .entry)) (now (work .entry))) sized
-            (isDistant (recordOf (runOf self) (planOf (now («test_dofs» .entry)) (now («trial_dofs» .entry)) (now (work .entry))) .pattern) and not (self .entries))
-            (distantChecks (self .numbers .integrand) (testDim (runOf self)) (trialDim (runOf self))
-            (distant «test_points» «trial_points» (now («test_weights» .entry)) (now («trial_weights» .entry)) (now («test_table» .entry)) (now («trial_table» .entry)) (now (kernel .entry)) (now («test_geometry» .entry)) (now («trial_geometry» .entry))))) ⌝ }
-    {
-        let v = self.state_refusal(test_dofs, trial_dofs, work, sized);
-        if v != 0 {
-            return v;
-        }
-        let e = record_at(work, wide(self.position));
-        if !((e.pattern == DISTANT) & !self.entries) {
-            return 23;
-        }
-        let n = self.numbers;
-        let f = n.integrand;
-        let test = n.test;
-        let trial = n.trial;
-        distant_refusal(
-            f,
-            test.dim(),
-            trial.dim(),
-            test_points,
-            trial_points,
-            test_weights,
-            trial_weights,
-            test_table,
-            trial_table,
-            kernel,
-            test_geometry,
-            trial_geometry,
-        )
-    }
-
-    // Adds the local matrix of a distant pair.
+    // Adds the local matrix of a distant pair. Checks 21, 20, 22, 23, then 9 to 11.
     pub fn add_distant(
         self,
         test_dofs: &[u32],
@@ -263,43 +162,52 @@ impl Run {
             (distant «test_points» «trial_points» (now («test_weights» .entry)) (now («trial_weights» .entry)) (now («test_table» .entry)) (now («trial_table» .entry)) (now (kernel .entry)) (now («test_geometry» .entry)) (now («trial_geometry» .entry))) ⌝ }
     {
         let sized = self.matrix_right(matrix);
-        let v = self.distant_call_refusal(
-            test_dofs,
-            trial_dofs,
-            work,
-            sized,
-            test_points,
-            trial_points,
-            test_weights,
-            trial_weights,
-            test_table,
-            trial_table,
-            kernel,
-            test_geometry,
-            trial_geometry,
-        );
-        if v != 0 {
-            return Added::Refused(self, v);
+        match self.state_checked(test_dofs, trial_dofs, work, sized) {
+            Checked::Refused(v) => Added::Refused(self, v),
+            Checked::Passed(e) => {
+                if !((e.pattern == DISTANT) & !self.entries) {
+                    return Added::Refused(self, 23);
+                }
+                let n = self.numbers;
+                let f = n.integrand;
+                let test = n.test;
+                let trial = n.trial;
+                let test_dim = test.dim();
+                let trial_dim = trial.dim();
+                let v = distant_refusal(
+                    f,
+                    test_dim,
+                    trial_dim,
+                    test_points,
+                    trial_points,
+                    test_weights,
+                    trial_weights,
+                    test_table,
+                    trial_table,
+                    kernel,
+                    test_geometry,
+                    trial_geometry,
+                );
+                if v != 0 {
+                    return Added::Refused(self, v);
+                }
+                let local = distant_matrix(
+                    f,
+                    test_dim,
+                    trial_dim,
+                    test_points,
+                    trial_points,
+                    test_weights,
+                    trial_weights,
+                    test_table,
+                    trial_table,
+                    kernel,
+                    test_geometry,
+                    trial_geometry,
+                );
+                self.add_matrix(test_dofs, trial_dofs, e, local, matrix);
+                Added::Accepted(self.advanced())
+            }
         }
-        let n = self.numbers;
-        let f = n.integrand;
-        let test = n.test;
-        let trial = n.trial;
-        let local = distant_matrix(
-            f,
-            test.dim(),
-            trial.dim(),
-            test_points,
-            trial_points,
-            test_weights,
-            trial_weights,
-            test_table,
-            trial_table,
-            kernel,
-            test_geometry,
-            trial_geometry,
-        );
-        self.add_matrix(test_dofs, trial_dofs, work, local, matrix);
-        Added::Accepted(self.advanced())
     }
 }

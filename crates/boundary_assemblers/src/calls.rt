@@ -1,4 +1,5 @@
 // The checks that every call of a run makes, and look.
+use crate::Checked;
 use crate::Looked;
 use crate::PlanNumbers;
 use crate::Run;
@@ -16,12 +17,11 @@ use work_records::WorkRecord;
 use work_records::record_at;
 ghost use mathlib.Core.Path.{_≡_};
 ghost use mathlib.Core.Bool.{true};
-ghost use Prim.Native.Nat.{_+_, _*_, _≤_, _<_};
+ghost use Prim.Native.Nat.{_+_, _*_, _≤_};
 ghost use lib.ListN.{length};
-ghost use Rattle.runs.specs.Runs.{begin, beginEntries, pairs, cellDofs, recordKnown, rangesRight, placesRight, planRight, recordRight, stateChecks, look, planOf};
-ghost use Rattle.boundary_assemblers.specs.Forms.{numbersOf, runOf, lookedOf};
-ghost use Rattle.lists.specs.Refusals.{refusal};
-ghost use Rattle.boundary_assemblers.specs.RunFacts.{Ranges, Lengths};
+ghost use Rattle.runs.specs.Runs.{begin, beginEntries, cellDofs, rangesRight, placesRight, planRight, look, planOf};
+ghost use Rattle.boundary_assemblers.specs.Forms.{numbersOf, runOf, lookedOf, stateChecked};
+ghost use Rattle.boundary_assemblers.specs.RunFacts.{Lengths, rightAt};
 
 impl PlanNumbers {
     // A dense run starts at 0.
@@ -104,27 +104,17 @@ impl Run {
             & (work.len() == WIDTH * (cells * cells))
     }
 
-    // 22: the pattern and the two cells of a record.
-    fn record_known(self, e: WorkRecord) -> bool
-        ensures { λ r. ⌜ r ≡ recordKnown (runOf self) e ⌝ }
+    // 22: a record, and the DOFs of its two cells.
+    fn record_right(self, test_dofs: &[u32], trial_dofs: &[u32], e: WorkRecord) -> bool
+        requires { ⌜ Lengths (runOf self) (now «test_dofs») (now «trial_dofs») ⌝ }
+        ensures { λ r. ⌜ r ≡ rightAt (runOf self) (now («test_dofs» .entry)) (now («trial_dofs» .entry)) e ⌝ }
     {
         let n = self.numbers;
-        ((e.pattern < NO_PATTERN) | (e.pattern == DISTANT))
+        if !(((e.pattern < NO_PATTERN) | (e.pattern == DISTANT))
             & (e.test < n.cells)
-            & (e.trial < n.cells)
-    }
-
-    // 22: record p, and the DOFs of its two cells.
-    fn record_right(self, test_dofs: &[u32], trial_dofs: &[u32], work: &[u32]) -> bool
-        requires { ⌜ (Ranges (runOf self)) × (Lengths (runOf self) (planOf (now «test_dofs») (now «trial_dofs») (now work))) ⌝ }
-        requires { ⌜ self .position < pairs (runOf self .numbers) ⌝ }
-        ensures { λ r. ⌜ r ≡ recordRight (runOf self) (planOf (now («test_dofs» .entry)) (now («trial_dofs» .entry)) (now (work .entry))) ⌝ }
-    {
-        let e = record_at(work, wide(self.position));
-        if !self.record_known(e) {
+            & (e.trial < n.cells)) {
             return false;
         }
-        let n = self.numbers;
         let test = n.test;
         let trial = n.trial;
         let rows = cell_dofs(test_dofs, test.dim(), wide(e.test));
@@ -132,48 +122,48 @@ impl Run {
         all_below(rows, n.rows) & all_below(columns, n.columns)
     }
 
-    // 21, 20, 22, which every call checks. `sized`: what is lent beside the plan has its length.
-    pub(crate) fn state_refusal(
+    // 21, 20, 22, which every call checks, then record p. `sized`: what is lent beside the plan has its length.
+    pub(crate) fn state_checked(
         self,
         test_dofs: &[u32],
         trial_dofs: &[u32],
         work: &[u32],
         sized: bool,
-    ) -> u32
-        ensures { λ r. ⌜ r ≡ refusal (stateChecks (runOf self) (planOf (now («test_dofs» .entry)) (now («trial_dofs» .entry)) (now (work .entry))) sized) ⌝ }
+    ) -> Checked
+        ensures { λ r. ⌜ r ≡ stateChecked (runOf self) (planOf (now («test_dofs» .entry)) (now («trial_dofs» .entry)) (now (work .entry))) sized ⌝ }
     {
         if !self.ranges_right() {
-            return 21;
+            return Checked::Refused(21);
         }
         if !self.places_right() {
-            return 21;
+            return Checked::Refused(21);
         }
         if !self.plan_right(test_dofs, trial_dofs, work) {
-            return 21;
+            return Checked::Refused(21);
         }
         if !sized {
-            return 21;
+            return Checked::Refused(21);
         }
         let n = self.numbers;
         let cells = wide(n.cells);
-        if wide(self.position) == cells * cells {
-            return 20;
+        let p = wide(self.position);
+        if p == cells * cells {
+            return Checked::Refused(20);
         }
-        if !self.record_right(test_dofs, trial_dofs, work) {
-            return 22;
+        let e = record_at(work, p);
+        if !self.record_right(test_dofs, trial_dofs, e) {
+            return Checked::Refused(22);
         }
-        0
+        Checked::Passed(e)
     }
 
     // Answers record p.
     pub fn look(self, test_dofs: &[u32], trial_dofs: &[u32], work: &[u32]) -> Looked
         ensures { λ r. ⌜ lookedOf r ≡ look (runOf self) (planOf (now («test_dofs» .entry)) (now («trial_dofs» .entry)) (now (work .entry))) ⌝ }
     {
-        let v = self.state_refusal(test_dofs, trial_dofs, work, true);
-        if v != 0 {
-            return Looked::Refused(self, v);
+        match self.state_checked(test_dofs, trial_dofs, work, true) {
+            Checked::Refused(v) => Looked::Refused(self, v),
+            Checked::Passed(e) => Looked::Found(self, e),
         }
-        let e = record_at(work, wide(self.position));
-        Looked::Found(self, e)
     }
 }

@@ -1,23 +1,27 @@
 // The entries call: the local matrix of a touching pair goes into three lists.
 use crate::Added;
+use crate::Checked;
 use crate::Run;
 use crate::calls::cell_dofs;
 use cell_pair_assemblers::LocalMatrix;
 use cell_pair_assemblers::touching_matrix;
+use lent_numbers::touching_refusal;
 use numbers::wide;
 use scatter::write_columns;
 use scatter::write_rows;
 use scatter::write_values;
-use work_records::record_at;
+use work_records::NO_PATTERN;
+use work_records::WorkRecord;
 ghost use mathlib.Core.Path.{_≡_};
 ghost use Prim.Native.Nat.{_≤_};
 ghost use mathlib.Core.List.{[], _∷_};
 ghost use Rattle.lists.specs.Bool.{every};
 ghost use Rattle.lent_numbers.specs.Lent.{touching};
 ghost use Rattle.scatter.specs.Entries.{entryAt};
-ghost use Rattle.runs.specs.Runs.{testDim, trialDim, rangesRight, placesRight, entriesRight, addEntries, entriesWritten, planOf, entryLists, written};
+ghost use Rattle.runs.specs.Runs.{testDim, trialDim, rangesRight, placesRight, entriesRight, addEntries, entriesWritten, planOf, entryLists};
 ghost use Rattle.boundary_assemblers.specs.Forms.{runOf, addedOf};
-ghost use Rattle.boundary_assemblers.specs.RunFacts.{Standing};
+ghost use Rattle.boundary_assemblers.specs.RunFacts.{testDofsAt, trialDofsAt, Standing};
+ghost use Rattle.boundary_assemblers.specs.EntryFacts.{writtenAt};
 
 impl Run {
     // 21: the run's numbers are right, and the entry lists have their length.
@@ -39,22 +43,21 @@ impl Run {
         (rows.len() == count) & (columns.len() == count) & (values.len() == count)
     }
 
-    // Writes a local matrix as the entries of record p.
+    // Writes a local matrix as the entries of record p, which is e.
     fn write_entries(
         self,
         test_dofs: &[u32],
         trial_dofs: &[u32],
-        work: &[u32],
+        e: WorkRecord,
         local: LocalMatrix,
         rows: &mut [u32],
         columns: &mut [u32],
         values: &mut [f64],
     )
-        requires { ⌜ Standing (runOf self) (planOf (now «test_dofs») (now «trial_dofs») (now work))
-            (every (rangesRight (runOf self) ∷ placesRight (runOf self) ∷ entriesRight (runOf self) (entryLists (now rows) (now columns) (now values)) ∷ [])) ⌝ }
+        requires { ⌜ Standing (runOf self) (now «test_dofs») (now «trial_dofs») e (entriesRight (runOf self) (entryLists (now rows) (now columns) (now values))) ⌝ }
         requires { ⌜ self .numbers .distant ≤ self .position ⌝ }
         ensures { λ _. ⌜ entryLists (now (rows .exit)) (now (columns .exit)) (now (values .exit))
-            ≡ written (runOf self) (planOf (now («test_dofs» .entry)) (now («trial_dofs» .entry)) (now (work .entry)))
+            ≡ writtenAt (runOf self) (testDofsAt (runOf self) (now («test_dofs» .entry)) e) (trialDofsAt (runOf self) (now («trial_dofs» .entry)) e)
             (entryAt (local .entries) (testDim (runOf self))) (entryLists (now (rows .entry)) (now (columns .entry)) (now (values .entry))) ⌝ }
     {
         let n = self.numbers;
@@ -62,7 +65,6 @@ impl Run {
         let trial = n.trial;
         let test_dim = test.dim();
         let trial_dim = trial.dim();
-        let e = record_at(work, wide(self.position));
         let row_dofs = cell_dofs(test_dofs, test_dim, wide(e.test));
         let column_dofs = cell_dofs(trial_dofs, trial_dim, wide(e.trial));
         let at = (wide(self.position) - wide(n.distant)) * test_dim * trial_dim;
@@ -72,7 +74,7 @@ impl Run {
         write_values(values, at, test_dim, trial_dim, &entries);
     }
 
-    // Writes row, column and value of each entry of a touching pair into three lists.
+    // Writes row, column and value of each entry of a touching pair into three lists. Checks 21, 20, 22, 23, then 9 to 11.
     pub fn add_entries(
         self,
         test_dofs: &[u32],
@@ -98,40 +100,48 @@ impl Run {
             (touching points (now (weights .entry)) (now («test_table» .entry)) (now («trial_table» .entry)) (now (kernel .entry)) (now («test_geometry» .entry)) (now («trial_geometry» .entry))) ⌝ }
     {
         let sized = self.entries_right(rows, columns, values);
-        let v = self.touching_call_refusal(
-            test_dofs,
-            trial_dofs,
-            work,
-            sized,
-            self.entries,
-            points,
-            weights,
-            test_table,
-            trial_table,
-            kernel,
-            test_geometry,
-            trial_geometry,
-        );
-        if v != 0 {
-            return Added::Refused(self, v);
+        match self.state_checked(test_dofs, trial_dofs, work, sized) {
+            Checked::Refused(v) => Added::Refused(self, v),
+            Checked::Passed(e) => {
+                if !((e.pattern < NO_PATTERN) & self.entries) {
+                    return Added::Refused(self, 23);
+                }
+                let n = self.numbers;
+                let f = n.integrand;
+                let test = n.test;
+                let trial = n.trial;
+                let test_dim = test.dim();
+                let trial_dim = trial.dim();
+                let v = touching_refusal(
+                    f,
+                    test_dim,
+                    trial_dim,
+                    points,
+                    weights,
+                    test_table,
+                    trial_table,
+                    kernel,
+                    test_geometry,
+                    trial_geometry,
+                );
+                if v != 0 {
+                    return Added::Refused(self, v);
+                }
+                let local = touching_matrix(
+                    f,
+                    test_dim,
+                    trial_dim,
+                    points,
+                    weights,
+                    test_table,
+                    trial_table,
+                    kernel,
+                    test_geometry,
+                    trial_geometry,
+                );
+                self.write_entries(test_dofs, trial_dofs, e, local, rows, columns, values);
+                Added::Accepted(self.advanced())
+            }
         }
-        let n = self.numbers;
-        let f = n.integrand;
-        let test = n.test;
-        let trial = n.trial;
-        let local = touching_matrix(
-            f,
-            test.dim(),
-            trial.dim(),
-            points,
-            weights,
-            test_table,
-            trial_table,
-            kernel,
-            test_geometry,
-            trial_geometry,
-        );
-        self.write_entries(test_dofs, trial_dofs, work, local, rows, columns, values);
-        Added::Accepted(self.advanced())
     }
 }

@@ -45,3 +45,9 @@ pub enum Added {
     Accepted(Run),
     Refused(Run, u32),
 }
+
+// What the checks that every call makes hand back: record p where all pass, else the refusal.
+pub(crate) enum Checked {
+    Passed(WorkRecord),
+    Refused(u32),
+}

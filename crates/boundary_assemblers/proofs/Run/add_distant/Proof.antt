@@ -1,12 +1,12 @@
 -- `boundary_assemblers::Run::add_distant` meets its contract: a refusal is answered as such, and nothing is written; where there is none, the local matrix is added. Assumes nothing.
 use native.Mathlib.Omega.{arith}
 use mathlib.Core.Path.{sym, _∙_}
+use Rattle.lists.specs.Bool.{_and_}
 use Rattle.lent_numbers.specs.Entries.{distantEntry}
 use Rattle.lent_numbers.specs.Sizes.{distant-fits}
-use Rattle.runs.specs.Runs.{distantRefusal, addDistant, distantMatrix}
+use Rattle.runs.specs.Runs.{isDistant, distantRefusal, addDistant, distantMatrix}
 use Rattle.boundary_assemblers.specs.RunFacts.{standing}
-use Rattle.boundary_assemblers.specs.AddFacts.{all-pass, add-refused, add-accepted, sum-is}
-use Rattle.boundary_assemblers.specs.Forms.{runOf}
+use Rattle.boundary_assemblers.specs.AddFacts.{by-state, by-kind, by-numbers, by-none, sum-is}
 use borrow.Author.Needs.{needs}
 use Rattle.boundary_assemblers.proofs.Run.add_distant.Statement.{statement}
 use Rattle.boundary_assemblers.proofs.Run.add_distant.Tie as tie
@@ -14,15 +14,21 @@ use Rattle.boundary_assemblers.proofs.Run.add_distant.Tie as tie
 matrix-right-requires : tie.Need-matrix-right-requires
 matrix-right-requires c κs = search needs
 
-distant-call-refusal-requires : tie.Need-distant-call-refusal-requires
-distant-call-refusal-requires c κs = search needs
+state-checked-requires : tie.Need-state-checked-requires
+state-checked-requires c κs = search needs
+
+enum-known-v : tie.Need-enum-known-v
+enum-known-v c = search needs
+
+enum-known-e : tie.Need-enum-known-e
+enum-known-e c = search needs
 
 same-length : tie.Need-same-length
 same-length c = search needs
 
 returns : tie.Need-returns
-unfolding addDistant distantMatrix distantRefusal
-returns c = add-refused _ _ _ _ _ (rw (c .before .before .matrix-right .ensures) at (c .before .distant-call-refusal .ensures)) (c .if1 .taken)
+unfolding addDistant distantMatrix distantRefusal _and_
+returns c = by-kind _ _ _ _ _ isDistant _ _ (sym (c .before .before .before .before .e .given .1) ∙ rw (c .before .before .before .before .before .before .before .matrix-right .ensures) at (c .before .before .before .before .before .before .state-checked .ensures)) (c .if1 .taken)
 
 dim-requires : tie.Need-dim-requires
 dim-requires c κs = search needs
@@ -30,43 +36,69 @@ dim-requires c κs = search needs
 dim-requires-2 : tie.Need-dim-requires-2
 dim-requires-2 c κs = search needs
 
-distant-matrix-requires : tie.Need-distant-matrix-requires
-distant-matrix-requires c κs =
-    let pass = all-pass (runOf (c .before .before .before .before .before .before .before .before .before .before .before .before .before .before .before .before .before .before .before .before .before .args .self)) _ _ _ _ (sym (rw (c .before .before .before .before .before .before .before .before .matrix-right .ensures) at (c .before .before .before .before .before .before .before .distant-call-refusal .ensures)) ∙ c .before .before .before .before .before .before .if1 .left) in
-    let h = standing (runOf (c .before .before .before .before .before .before .before .before .before .before .before .before .before .before .before .before .before .before .before .before .before .args .self)) _ _ (pass .state) in
-    rw (c .dim2 .ensures, c .before .dim .ensures) (distant-fits _ _ _ _ (h .ranges .test) (h .ranges .trial) (pass .rest))
-
-add-matrix-requires : tie.Need-add-matrix-requires
-add-matrix-requires c κs = standing (runOf (c .before .before .before .before .before .before .before .before .before .before .before .before .before .before .before .before .before .before .before .before .before .before .before .args .self)) _ _ (all-pass (runOf (c .before .before .before .before .before .before .before .before .before .before .before .before .before .before .before .before .before .before .before .before .before .before .before .args .self)) _ _ _ _ (sym (rw (c .before .before .before .before .before .before .before .before .before .before .matrix-right .ensures) at (c .before .before .before .before .before .before .before .before .before .distant-call-refusal .ensures)) ∙ c .before .before .before .before .before .before .before .before .if1 .left) .state)
-
-advanced-requires : tie.Need-advanced-requires
-advanced-requires c κs =
-    let h = standing (runOf (c .before .before .before .before .before .before .before .before .before .before .before .before .before .before .before .before .before .before .before .before .before .before .before .before .before .before .args .self)) _ _ (all-pass (runOf (c .before .before .before .before .before .before .before .before .before .before .before .before .before .before .before .before .before .before .before .before .before .before .before .before .before .before .args .self)) _ _ _ _ (sym (rw (c .before .before .before .before .before .before .before .before .before .before .before .before .before .matrix-right .ensures) at (c .before .before .before .before .before .before .before .before .before .before .before .before .distant-call-refusal .ensures)) ∙ c .before .before .before .before .before .before .before .before .before .before .before .if1 .left) .state) in
-    omega (arith, h .below, h .ranges .all-pairs)
+distant-refusal-requires : tie.Need-distant-refusal-requires
+distant-refusal-requires c κs =
+    let h = standing _ _ _ (sym (c .before .before .before .before .before .before .before .before .before .before .e .given .1) ∙ rw (c .before .before .before .before .before .before .before .before .before .before .before .before .before .matrix-right .ensures) at (c .before .before .before .before .before .before .before .before .before .before .before .before .state-checked .ensures)) in
+    rw (c .dim2 .ensures, c .before .dim .ensures) (h .ranges .test, h .ranges .trial)
 
 same-length-2 : tie.Need-same-length-2
 same-length-2 c = search needs
 
 returns-2 : tie.Need-returns-2
+unfolding addDistant distantMatrix distantRefusal _and_
+returns-2 c = by-numbers _ _ _ _ _ isDistant _ _ (sym (c .before .before .before .before .before .before .before .before .before .before .before .before .e .given .1) ∙ rw (c .before .before .before .before .before .before .before .before .before .before .before .before .before .before .before .matrix-right .ensures) at (c .before .before .before .before .before .before .before .before .before .before .before .before .before .before .state-checked .ensures)) (c .before .before .before .before .before .before .before .before .if1 .left) _ (rw (c .before .before .dim2 .ensures, c .before .before .before .dim .ensures) at (c .before .distant-refusal .ensures)) (c .if2 .taken)
+
+distant-matrix-requires : tie.Need-distant-matrix-requires
+distant-matrix-requires c κs =
+    let h = standing _ _ _ (sym (c .before .before .before .before .before .before .before .before .before .before .before .before .e .given .1) ∙ rw (c .before .before .before .before .before .before .before .before .before .before .before .before .before .before .before .matrix-right .ensures) at (c .before .before .before .before .before .before .before .before .before .before .before .before .before .before .state-checked .ensures)) in
+    rw (c .before .before .dim2 .ensures, c .before .before .before .dim .ensures)
+    (distant-fits _ _ _ _ (h .ranges .test) (h .ranges .trial) (sym (rw (c .before .before .dim2 .ensures, c .before .before .before .dim .ensures) at (c .before .distant-refusal .ensures)) ∙ c .if2 .left))
+
+add-matrix-requires : tie.Need-add-matrix-requires
+add-matrix-requires c κs = standing _ _ _ (sym (c .before .before .before .before .before .before .before .before .before .before .before .before .before .before .e .given .1) ∙ rw (c .before .before .before .before .before .before .before .before .before .before .before .before .before .before .before .before .before .matrix-right .ensures) at (c .before .before .before .before .before .before .before .before .before .before .before .before .before .before .before .before .state-checked .ensures))
+
+advanced-requires : tie.Need-advanced-requires
+advanced-requires c κs =
+    let h = standing _ _ _ (sym (c .before .before .before .before .before .before .before .before .before .before .before .before .before .before .before .before .before .e .given .1) ∙ rw (c .before .before .before .before .before .before .before .before .before .before .before .before .before .before .before .before .before .before .before .before .matrix-right .ensures) at (c .before .before .before .before .before .before .before .before .before .before .before .before .before .before .before .before .before .before .before .state-checked .ensures)) in
+    omega (arith, h .below, h .ranges .all-pairs)
+
+same-length-3 : tie.Need-same-length-3
+same-length-3 c = search needs
+
+returns-3 : tie.Need-returns-3
 unfolding addDistant distantMatrix distantRefusal
-returns-2 c =
-    let h = standing (runOf (c .before .before .before .before .before .before .before .before .before .before .before .before .before .before .before .before .before .before .before .before .before .before .before .before .before .before .before .args .self)) _ _ (all-pass (runOf (c .before .before .before .before .before .before .before .before .before .before .before .before .before .before .before .before .before .before .before .before .before .before .before .before .before .before .before .args .self)) _ _ _ _ (sym (rw (c .before .before .before .before .before .before .before .before .before .before .before .before .before .before .matrix-right .ensures) at (c .before .before .before .before .before .before .before .before .before .before .before .before .before .distant-call-refusal .ensures)) ∙ c .before .before .before .before .before .before .before .before .before .before .before .before .if1 .left) .state) in
-    let local = rw (c .before .before .before .before .before .before .dim2 .ensures, c .before .before .before .before .before .before .before .dim .ensures) at (c .before .before .before .before .before .distant-matrix .ensures) in
-    add-accepted _ _ _ _ _ _ (sym (rw (c .before .before .before .before .before .before .before .before .before .before .before .before .before .before .matrix-right .ensures) at (c .before .before .before .before .before .before .before .before .before .before .before .before .before .distant-call-refusal .ensures)) ∙ c .before .before .before .before .before .before .before .before .before .before .before .before .if1 .left) (c .advanced .ensures)
-    (sum-is h _ (c .before .before .before .before .before .distant-matrix .result .entries) (distantEntry _ _) (local .entries) (c .before .before .before .add-matrix .ensures))
+returns-3 c = by-state _ _ _ _ _ isDistant _ _ (sym (c .before .v .given .1) ∙ rw (c .before .before .before .before .matrix-right .ensures) at (c .before .before .before .state-checked .ensures))
+
+same-length-4 : tie.Need-same-length-4
+same-length-4 c = search needs
+
+returns-4 : tie.Need-returns-4
+unfolding addDistant distantMatrix distantRefusal _and_
+returns-4 c =
+    let s = sym (c .before .before .before .before .before .before .before .before .before .before .before .before .before .before .before .before .before .before .e .given .1) ∙ rw (c .before .before .before .before .before .before .before .before .before .before .before .before .before .before .before .before .before .before .before .before .before .matrix-right .ensures) at (c .before .before .before .before .before .before .before .before .before .before .before .before .before .before .before .before .before .before .before .before .state-checked .ensures) in
+    let local = rw (c .before .before .before .before .before .before .before .before .dim2 .ensures, c .before .before .before .before .before .before .before .before .before .dim .ensures) at (c .before .before .before .before .before .distant-matrix .ensures) in
+    by-none _ _ _ _ _ isDistant _ _ s (c .before .before .before .before .before .before .before .before .before .before .before .before .before .before .if1 .left) _ (rw (c .before .before .before .before .before .before .before .before .dim2 .ensures, c .before .before .before .before .before .before .before .before .before .dim .ensures) at (c .before .before .before .before .before .before .before .distant-refusal .ensures)) (c .before .before .before .before .before .before .if2 .left) (c .advanced .ensures)
+    (sum-is _ _ _ s _ (c .before .before .before .before .before .distant-matrix .result .entries) (distantEntry _ _) (local .entries) (c .before .before .before .add-matrix .ensures))
 
 pub add-distant-spec : {M : Type 1} → statement M
 add-distant-spec =
     tie.close
     (tie.spec
     matrix-right-requires
-    distant-call-refusal-requires
+    state-checked-requires
+    enum-known-v
+    enum-known-e
     same-length
     returns
     dim-requires
     dim-requires-2
+    distant-refusal-requires
+    same-length-2
+    returns-2
     distant-matrix-requires
     add-matrix-requires
     advanced-requires
-    same-length-2
-    returns-2)
+    same-length-3
+    returns-3
+    same-length-4
+    returns-4)
