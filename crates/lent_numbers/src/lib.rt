@@ -9,9 +9,9 @@ ghost use Rattle.lists.specs.Refusals.{refusal};
 ghost use Rattle.lent_numbers.specs.Lent.{mostTouchingPoints, mostDistantPoints, touching, distant, jdetsAbove0, touchingLengths, touchingNumbers, touchingChecks, distantLengths, distantNumbers, distantChecks};
 
 // The most points of a touching pair, and of each side of a distant pair.
-pub const MOST_TOUCHING_POINTS: usize = 2048;
+const MOST_TOUCHING_POINTS: usize = 2048;
 
-pub const MOST_DISTANT_POINTS: usize = 64;
+const MOST_DISTANT_POINTS: usize = 64;
 
 // Whether each jdet is above 0. All are read, whatever the first is.
 fn jdets_above_0(s: &[f64], points: usize) -> bool

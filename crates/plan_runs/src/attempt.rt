@@ -55,11 +55,11 @@ pub fn one_cell() -> Case {
     }
 }
 
-pub fn print(text: &[u8]) {
+fn print(text: &[u8]) {
     io::write_all(STDOUT_FILENO, text);
 }
 
-pub fn print_number(x: u32) {
+fn print_number(x: u32) {
     io::print_decimal(STDOUT_FILENO, x as u64);
 }
 
@@ -161,10 +161,9 @@ fn print_refusal(number: u32, untouched: bool) {
     }
 }
 
-// The lists where they are asked for and nothing is turned down; of a refusal, whether each place of the lists has its mark.
+// The lists where nothing is turned down; of a refusal, whether each place of the lists has its mark.
 fn print_answer(
     answer: Planned,
-    shown: bool,
     test_dofs: &[u32],
     trial_dofs: &[u32],
     test_colours: &[u32],
@@ -176,18 +175,16 @@ fn print_answer(
     match answer {
         Planned::Ready(n) => {
             print(b": ready\n");
-            if shown {
-                print_plan(
-                    n,
-                    test_dofs,
-                    trial_dofs,
-                    test_colours,
-                    trial_colours,
-                    test_owners,
-                    trial_owners,
-                    work,
-                );
-            }
+            print_plan(
+                n,
+                test_dofs,
+                trial_dofs,
+                test_colours,
+                trial_colours,
+                test_owners,
+                trial_owners,
+                work,
+            );
         }
         Planned::Refused(number) => {
             let untouched = is_marked(test_dofs)
@@ -207,7 +204,6 @@ fn run(
     x: Case,
     cell_vertices: &[u32],
     cell_edges: &[u32],
-    shown: bool,
     test_dofs: &mut [u32],
     trial_dofs: &mut [u32],
     test_colours: &mut [u32],
@@ -245,7 +241,6 @@ fn run(
     );
     print_answer(
         answer,
-        shown,
         test_dofs,
         trial_dofs,
         test_colours,
@@ -257,7 +252,7 @@ fn run(
 }
 
 // The name, and what run prints.
-fn attempt(name: &[u8], x: Case, cell_vertices: &[u32], cell_edges: &[u32], shown: bool) {
+pub fn show(name: &[u8], x: Case, cell_vertices: &[u32], cell_edges: &[u32]) {
     let a = within(x.test_dofs);
     let b = within(x.trial_dofs);
     let c = within(x.test_colours);
@@ -277,7 +272,6 @@ fn attempt(name: &[u8], x: Case, cell_vertices: &[u32], cell_edges: &[u32], show
         x,
         cell_vertices,
         cell_edges,
-        shown,
         &mut test_dofs[..a],
         &mut trial_dofs[..b],
         &mut test_colours[..c],
@@ -286,14 +280,4 @@ fn attempt(name: &[u8], x: Case, cell_vertices: &[u32], cell_edges: &[u32], show
         &mut trial_owners[..f],
         &mut work[..g],
     );
-}
-
-// Prints the whole plan.
-pub fn show(name: &[u8], x: Case, cell_vertices: &[u32], cell_edges: &[u32]) {
-    attempt(name, x, cell_vertices, cell_edges, true);
-}
-
-// Prints what is answered.
-pub fn answer(name: &[u8], x: Case, cell_vertices: &[u32], cell_edges: &[u32]) {
-    attempt(name, x, cell_vertices, cell_edges, false);
 }

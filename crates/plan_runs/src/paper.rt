@@ -1,6 +1,5 @@
 // The paper's examples M1 to M8.
 use crate::attempt::Case;
-use crate::attempt::answer;
 use crate::attempt::one_cell;
 use crate::attempt::show;
 use function::Element;
@@ -58,7 +57,7 @@ fn print_m5() {
 }
 
 // C = 2, V = 3, E = 3, both elements (1,0,0), batch 1.
-pub fn two_cells() -> Case {
+fn two_cells() -> Case {
     let mut x = one_cell();
     x.cells = 2;
     x.test_dofs = 6;
@@ -72,7 +71,7 @@ pub fn two_cells() -> Case {
 }
 
 fn print_m7() {
-    answer(
+    show(
         b"M7 turned",
         two_cells(),
         &[0, 1, 2, 1, 2, 0],
@@ -93,7 +92,7 @@ fn print_m8() {
     let mut y = one_cell();
     y.cells = 2049;
     let list = [0u32; 6147];
-    answer(b"M8 C = 2049", y, &list, &list);
+    show(b"M8 C = 2049", y, &list, &list);
 }
 
 pub fn print_examples() {

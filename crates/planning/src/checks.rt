@@ -50,7 +50,7 @@ fn lengths_right(
 }
 
 // The first check that turns planning down, or 0. It writes nothing.
-pub fn plan_refusal(
+pub(crate) fn plan_refusal(
     sizes: Sizes,
     cell_vertices: &[u32],
     cell_edges: &[u32],

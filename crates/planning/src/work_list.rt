@@ -48,7 +48,7 @@ fn write_parts(
 }
 
 // Writes the work list of so many cells, with vertex numbers below top; hands back how many pairs are distant.
-pub fn write_work(
+pub(crate) fn write_work(
     cells: usize,
     top: usize,
     vertices: &[u32],

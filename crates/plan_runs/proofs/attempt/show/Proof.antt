@@ -1,12 +1,12 @@
--- `plan_runs::attempt::attempt` meets its contract: the lists are fronts of arrays that are long enough. Assumes nothing.
+-- `plan_runs::attempt::show` meets its contract: the lists are fronts of arrays that are long enough. Assumes nothing.
 use Prim.Native.Nat.{ℕ, _≤_}
 use native.Mathlib.Omega.{arith}
 use mathlib.Core.Path.{_≡_, sym}
 use lib.ListN.{length, take, replicate, length-replicate}
 use lib.Seq.{length-take-le}
 use borrow.Author.Needs.{needs}
-use Rattle.plan_runs.proofs.attempt.attempt.Statement.{statement}
-use Rattle.plan_runs.proofs.attempt.attempt.Tie as tie
+use Rattle.plan_runs.proofs.attempt.show.Statement.{statement}
+use Rattle.plan_runs.proofs.attempt.show.Tie as tie
 
 -- a front of an array of marks
 front : (n : ℕ) → n ≤ 64 → n ≡ length {A = ℕ} (take n (replicate 64 77))
@@ -84,8 +84,8 @@ run-requires c κs = search needs
 returns : tie.Need-returns
 returns c = search needs
 
-pub attempt-spec : {M : Type 1} → statement M
-attempt-spec =
+pub show-spec : {M : Type 1} → statement M
+show-spec =
     tie.close
     (tie.spec
     within-requires
