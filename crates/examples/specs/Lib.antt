@@ -7,7 +7,8 @@ use Rattle.integrands.specs.Examples.{F3, F4, F3-holds, F4-holds, double, norma
 use Rattle.lent_numbers.specs.Examples.{F1, F2, F1-rounded, F2-rounded, F1-holds, F2-holds, F1-rounded-holds, F2-rounded-holds, two-points, four-pairs, point-order, two-points-hold, four-pairs-hold, point-order-holds}
 use Rattle.scatter.specs.Examples.{added, rows-columns, values, added-holds, rows-columns-hold, values-hold}
 use Rattle.cell_pairs.specs.Examples.{M4-records, M5-records, M7-records, M4-records-holds, M5-records-holds, M7-records-holds, patterns, patterns-hold}
-use Rattle.plans.specs.Examples.{M-planned, M-sizes, M6-distant, M6-touching, M6-sum, M7-refused, M7-planned, M7-work, M7-work-holds, M8-batch, M8-cells, M-planned-holds, M-sizes-holds, M6-distant-holds, M6-touching-holds, M6-sum-holds, M7-refused-holds, M7-planned-holds, M8-batch-holds, M8-cells-holds}
+use Rattle.plans.specs.Examples.{M-planned, M-sizes, M6-distant, M6-touching, M6-sum, M7-refused, M7-planned, M7-work, M7-work-holds, M4-work, two-elements, first-fault, no-room, M4-work-holds, two-elements-hold, first-fault-holds, no-room-holds, M8-batch, M8-cells, M-planned-holds, M-sizes-holds, M6-distant-holds, M6-touching-holds, M6-sum-holds, M7-refused-holds, M7-planned-holds, M8-batch-holds, M8-cells-holds}
+use Rattle.runs.specs.Examples.{looks-answered, adds-answered, looks-answered-hold, adds-answered-hold}
 use Rattle.job.specs.Examples.{M4-read, M4-vertices, M4-edges, short-refused, short-vertices, large-limited, large-free, M4-read-holds, M4-vertices-holds, M4-edges-holds, short-refused-holds, short-vertices-holds, large-limited-holds, large-free-holds}
 use Rattle.worklist_text.specs.Examples.{M4, M5, M7-turned-text, M7-twice-text, M8-batch-text, M4-short, M4-longer, job-large, M4-holds, M5-holds, M7-turned-text-holds, M7-twice-text-holds, M8-batch-text-holds, M4-short-holds, M4-longer-holds, job-large-holds}
 
@@ -51,13 +52,14 @@ theorem =
 
 -- and some beside them, for what these leave untouched: M4, M5 and M7 as records, M accepted, M7 and M8 as text, jobs cut short, longer and too large, what
 -- reading a job answers and writes; owner records, a DOF count, colours by edges, two DOFs on an entity; the plus 1 of a pattern and its i and j; kinds 1 and 4,
--- a factor, two terms; sums in which rounding shows, and ones of several points and basis functions; where local entries go, and in which order
+-- a factor, two terms; sums in which rounding shows, and ones of several points and basis functions; where local entries go, and in which order; work lists as planning leaves them, the first of
+-- several faults, and what look and the adds answer to runs and plans that no planning gave
 abbrev pub more : List Example
 more =
     M4-records ∷ M5-records ∷ M-planned ∷ M-sizes ∷ M7-turned-text ∷ M7-twice-text ∷ M8-batch-text
     ∷ M4-short ∷ M4-longer ∷ job-large ∷ M4-read ∷ M4-vertices ∷ M4-edges ∷ short-refused ∷ short-vertices ∷ large-limited ∷ large-free ∷ M2-owners ∷ M2-count
     ∷ F1-rounded ∷ F2-rounded ∷ M7-records ∷ by-edges ∷ two-an-edge ∷ two-owners ∷ patterns ∷ double ∷ normals ∷ factor ∷ two ∷ one ∷ two-points ∷ four-pairs ∷ point-order
-    ∷ added ∷ rows-columns ∷ values ∷ []
+    ∷ added ∷ rows-columns ∷ values ∷ M4-work ∷ two-elements ∷ first-fault ∷ no-room ∷ looks-answered ∷ adds-answered ∷ []
 
 pub more-hold : Agree more
 more-hold =
@@ -98,4 +100,10 @@ more-hold =
     and-also added-holds
     and-also rows-columns-hold
     and-also values-hold
+    and-also M4-work-holds
+    and-also two-elements-hold
+    and-also first-fault-holds
+    and-also no-room-holds
+    and-also looks-answered-hold
+    and-also adds-answered-hold
     and-also no-more

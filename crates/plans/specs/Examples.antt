@@ -8,8 +8,9 @@ use Rattle.grid.specs.Examples.{M, M7-turned, M7-twice, M8-large}
 use Rattle.function.specs.Examples.{element}
 use Rattle.integrands.specs.declared.Term.the-variants.{Bare}
 use Rattle.integrands.specs.Examples.{opened-integrands}
+use Rattle.work_records.specs.Records.{rec, flat}
 use Rattle.cell_pairs.specs.Examples.{opened-cell-pairs}
-use Rattle.plans.specs.Planning.{Planning, PlanNumbers, Planned, ready, refused, listsFor, batchRight, lengthsRight, planRefusal, planNumbers, plan, plannedNumber, writtenLists, planLists}
+use Rattle.plans.specs.Planning.{Planning, Lists, listsOf, PlanNumbers, Planned, ready, refused, listsFor, batchRight, lengthsRight, planRefusal, planNumbers, plan, plannedNumber, writtenLists, planLists}
 
 -- opens the definitions of this crate and of those below it
 unfoldable pub opened-plans : Unit {0}
@@ -72,6 +73,45 @@ M-sizes =
 pub M-sizes-holds : Holds M-sizes
 unfolding opened-plans
 M-sizes-holds = refl
+
+-- M4 as planning leaves it in the work list, and the like with one DOF a cell for trial, whose colours are 0, 0, 0
+abbrev pub M4-work : Example
+M4-work =
+    let x : Planning = vertexDofs M 2 in
+    example (planLists x (listsFor x) .work)
+    (flat (rec 255 2 0 ∷ rec 255 0 2 ∷ rec 255 2 1 ∷ rec 255 1 2 ∷ rec 11 0 1 ∷ rec 15 1 0 ∷ rec 27 0 0 ∷ rec 27 1 1 ∷ rec 27 2 2 ∷ []))
+
+pub M4-work-holds : Holds M4-work
+unfolding opened-plans
+M4-work-holds = refl
+
+abbrev pub two-elements : Example
+two-elements =
+    let x : Planning = record { mesh = M; test = element 1 0 0; trial = element 0 0 1; batch = 2; integrand = vertexDofs M 2 .integrand } in
+    example (planLists x (listsFor x) .work)
+    (flat (rec 255 2 0 ∷ rec 255 2 1 ∷ rec 255 0 2 ∷ rec 255 1 2 ∷ rec 11 0 1 ∷ rec 15 1 0 ∷ rec 27 0 0 ∷ rec 27 1 1 ∷ rec 27 2 2 ∷ []))
+
+pub two-elements-hold : Holds two-elements
+unfolding opened-plans
+two-elements-hold = refl
+
+-- the first check that fails answers: an element without DOFs and batch 0, 4; and M with a work list of no length, 8
+abbrev pub first-fault : Example
+first-fault = example (number (record { mesh = M; test = element 0 0 0; trial = element 1 0 0; batch = 0; integrand = vertexDofs M 2 .integrand })) 4
+
+pub first-fault-holds : Holds first-fault
+unfolding opened-plans
+first-fault-holds = refl
+
+abbrev pub no-room : Example
+no-room =
+    let x : Planning = vertexDofs M 2 in
+    let l : Lists = listsFor x in
+    example (plannedNumber (plan x (listsOf (l .testDofs) (l .trialDofs) (l .testColours) (l .trialColours) (l .testOwners) (l .trialOwners) []))) 8
+
+pub no-room-holds : Holds no-room
+unfolding opened-plans
+no-room-holds = refl
 
 -- M7: cells (0,1,2), (1,2,0): 7. Cells (0,1,2) twice are accepted
 abbrev pub M7-refused : Example
