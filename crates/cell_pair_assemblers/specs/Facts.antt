@@ -1,6 +1,5 @@
--- Laws on what is lent: what the checks that passed say of the lengths, and the sums of the points passed. Assumes nothing.
+-- Laws on what is lent: what a point reads, and the sums of the points passed. Assumes nothing.
 use Prim.Native.Nat.{ℕ, _+_, _*_, _<_, _≤_}
-use native.Mathlib.Nat.{mul-le-mul-left, mul-le-mul-right}
 use native.Mathlib.Omega.{arith}
 use mathlib.Core.Bool.{true, _&&_}
 use mathlib.Core.Path.{_≡_, refl, sym, subst, _∙_, ap}
@@ -9,11 +8,9 @@ use lib.ListN.{length, replicate, length-replicate, getD-replicate}
 use lib.Dec.{eqb}
 use lib.Ieee.{Float, nan}
 use borrow.Author.Tests.{eqb-true}
-use Rattle.lists.specs.Bool.{_and_, every-at, and-left, and-right}
+use Rattle.lists.specs.Bool.{_and_, and-left, and-right}
 use Rattle.lists.specs.Fold.{upto, upto-none, upto-more}
 use Rattle.lists.specs.Places.{in-row, in-rectangle}
-use Rattle.lists.specs.Refusals.{refusal, refusal-at}
-use Rattle.numbers.specs.Ranges.{within, within-high}
 use Rattle.function.specs.Elements.{mostDim}
 use Rattle.table.specs.Rows.{tableRow}
 use Rattle.integrands.specs.declared.Integrand.{Integrand}
@@ -25,10 +22,10 @@ use Rattle.integrands.specs.Terms.{kindOf, kernelWidth, tableRows}
 use Rattle.integrands.specs.ValueFacts.{plain-first, term-from}
 use Rattle.integrands.specs.Parts.{plainKind, coefficient, factored, fromSides, TestSide, TrialSide}
 use Rattle.integrands.specs.Values.{geometryAt, termValue, pointValue}
-use Rattle.integrands.specs.Columns.{Added, Held, Table, rows-some, width-some, hundred-place, first-reads}
+use Rattle.integrands.specs.Columns.{Added, Held, Table, rows-some, hundred-place, first-reads}
 use Rattle.cell_pair_assemblers.specs.declared.Weight.{Weight}
 use Rattle.cell_pair_assemblers.specs.declared.Weight.the-variants.{Once, Twice}
-use Rattle.lent_numbers.specs.Lent.{mostPointPairs, Touching, Distant, TouchingFits, DistantFits, touchingCount, touchingLengths, touchingChecks, distantCounts, distantLengths, distantChecks}
+use Rattle.lent_numbers.specs.Lent.{mostPointPairs, Touching, Distant, TouchingFits, DistantFits}
 use Rattle.lent_numbers.specs.Sizes.{touching-sizes, distant-sizes, small-pairs}
 use Rattle.lent_numbers.specs.Entries.{touchingValue, touchingSummand, touchingEntry, distantValue, distantSummand, distantEntry}
 

@@ -1,4 +1,4 @@
--- M4, M5 and M7 of the paper, as records. (The text that `worklist` prints of them stands with the job.) Assumes nothing.
+-- M4, M5 and M7 of the paper, as records. (The text that `worklist` prints of them is in `worklist_text`.) Assumes nothing.
 use Prim.Native.Nat.{ℕ}
 use mathlib.Core.Path.{refl}
 use mathlib.Core.Bool.{false}

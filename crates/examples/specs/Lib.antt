@@ -8,7 +8,7 @@ use Rattle.lent_numbers.specs.Examples.{F1, F2, F1-rounded, F2-rounded, F1-hold
 use Rattle.scatter.specs.Examples.{added, rows-columns, values, added-holds, rows-columns-hold, values-hold}
 use Rattle.cell_pairs.specs.Examples.{M4-records, M5-records, M7-records, M4-records-holds, M5-records-holds, M7-records-holds, patterns, patterns-hold}
 use Rattle.plans.specs.Examples.{M-planned, M-sizes, M6-distant, M6-touching, M6-sum, M7-refused, M7-planned, M7-work, M7-work-holds, M4-work, two-elements, first-fault, no-room, M4-work-holds, two-elements-hold, first-fault-holds, no-room-holds, M8-batch, M8-cells, M-planned-holds, M-sizes-holds, M6-distant-holds, M6-touching-holds, M6-sum-holds, M7-refused-holds, M7-planned-holds, M8-batch-holds, M8-cells-holds}
-use Rattle.runs.specs.Examples.{looks-answered, adds-answered, looks-answered-hold, adds-answered-hold}
+use Rattle.runs.specs.Examples.{first-look, looks-answered, adds-answered, first-look-holds, looks-answered-hold, adds-answered-hold}
 use Rattle.job.specs.Examples.{M4-read, M4-vertices, M4-edges, short-refused, short-vertices, large-limited, large-free, M4-read-holds, M4-vertices-holds, M4-edges-holds, short-refused-holds, short-vertices-holds, large-limited-holds, large-free-holds}
 use Rattle.worklist_text.specs.Examples.{M4, M5, M7-turned-text, M7-twice-text, M8-batch-text, M4-short, M4-longer, job-large, M4-holds, M5-holds, M7-turned-text-holds, M7-twice-text-holds, M8-batch-text-holds, M4-short-holds, M4-longer-holds, job-large-holds}
 
@@ -59,7 +59,7 @@ more =
     M4-records ∷ M5-records ∷ M-planned ∷ M-sizes ∷ M7-turned-text ∷ M7-twice-text ∷ M8-batch-text
     ∷ M4-short ∷ M4-longer ∷ job-large ∷ M4-read ∷ M4-vertices ∷ M4-edges ∷ short-refused ∷ short-vertices ∷ large-limited ∷ large-free ∷ M2-owners ∷ M2-count
     ∷ F1-rounded ∷ F2-rounded ∷ M7-records ∷ by-edges ∷ two-an-edge ∷ two-owners ∷ patterns ∷ double ∷ normals ∷ factor ∷ two ∷ one ∷ two-points ∷ four-pairs ∷ point-order
-    ∷ added ∷ rows-columns ∷ values ∷ M4-work ∷ two-elements ∷ first-fault ∷ no-room ∷ looks-answered ∷ adds-answered ∷ []
+    ∷ added ∷ rows-columns ∷ values ∷ M4-work ∷ two-elements ∷ first-fault ∷ no-room ∷ first-look ∷ looks-answered ∷ adds-answered ∷ []
 
 pub more-hold : Agree more
 more-hold =
@@ -104,6 +104,7 @@ more-hold =
     and-also two-elements-hold
     and-also first-fault-holds
     and-also no-room-holds
+    and-also first-look-holds
     and-also looks-answered-hold
     and-also adds-answered-hold
     and-also no-more

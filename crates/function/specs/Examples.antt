@@ -1,4 +1,4 @@
--- M1, M2 and M3 of the paper. Assumes nothing.
+-- M1, M2 and M3 of the paper, and what they leave untouched. Assumes nothing.
 use Prim.Native.Nat.{ℕ}
 use mathlib.Core.Path.{refl}
 use mathlib.Core.List.{[], _∷_}

@@ -7,8 +7,8 @@ use mathlib.Core.Path.{_≡_, refl, sym, ap, ap₂, subst, _∙_}
 use mathlib.Core.Logic.{_⊎_, inl, inr, ⊎-elim}
 use mathlib.Core.List.{List, [], _∷_}
 use lib.ListN.{length, getD}
-use lib.Dec.{leb, ltb, eqb}
-use borrow.Author.Tests.{leb-true, ltb-true, lt-ltb, eqb-true, eqb-false, eq-eqb, not-true}
+use lib.Dec.{eqb}
+use borrow.Author.Tests.{lt-ltb, eqb-true, eqb-false, eq-eqb, not-true}
 use Rattle.lists.specs.Bool.{_and_, _or_, iff, iff-sides, every, every-at, and-left, and-right, or-cases, or-no-left, or-no-right}
 use Rattle.lists.specs.Bounded.{all-at, all-of, some-at, some-which, lt-or-le}
 use Rattle.lists.specs.Refusals.{refusal, refusal-at}

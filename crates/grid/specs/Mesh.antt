@@ -3,7 +3,7 @@ use Prim.Native.Nat.{ℕ, _*_, _/_, _%_}
 use mathlib.Core.Bool.{Bool, not}
 use mathlib.Core.List.{List, [], _∷_}
 use lib.ListN.{length, getD}
-use lib.Dec.{leb, ltb, eqb}
+use lib.Dec.{eqb}
 use Rattle.lists.specs.Bool.{_and_, _or_, every, iff}
 use Rattle.lists.specs.Bounded.{all}
 use Rattle.lists.specs.Refusals.{Check, check}

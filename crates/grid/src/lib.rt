@@ -1,4 +1,4 @@
-// The mesh: the shape of a cell (`shape`), and checks 1 to 3 (`checks`).
+// The mesh: the shape of a cell (`shape`), checks 1 to 3 (`checks`), and the edge rule (`edge_rule`).
 mod checks;
 mod edge_rule;
 mod shape;

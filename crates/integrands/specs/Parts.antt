@@ -27,11 +27,11 @@ unfoldable pub factored : Term → Float → Float
 factored (Bare kind) x = x
 factored (Scaled factor kind) x = factor ⊗ x
 
--- the kind of one term; 3 of two
+-- the kind of an integrand that is one term; 3 of any other
 unfoldable pub plainKind : Integrand → ℕ
 plainKind f = cond (secondRead f) 3 (kindOf (f .first))
 
--- its curls in kind 3; else, in the first, c times row 0 (test) or row 0 (trial)
+-- what a basis function brings: its three curls in kind 3; else, as the first number, row 0, which has c before it on the test side
 pub record TestSide (kind : ℕ) (c : Float) (g : Geometry) (x : ℕ → Float) (a0 a1 a2 : Float) : Type 0 where
   pub outer : (kind ≡ 3 → ⊥) → a0 ≡ c ⊗ x 0
   pub curls : kind ≡ 3 → (a0 ≡ curl (g .j3) (g .j0) x) × (a1 ≡ curl (g .j4) (g .j1) x) × (a2 ≡ curl (g .j5) (g .j2) x)
@@ -40,5 +40,6 @@ pub record TrialSide (kind : ℕ) (g : Geometry) (x : ℕ → Float) (b : Side) 
   pub outer : (kind ≡ 3 → ⊥) → b .x0 ≡ x 0
   pub curls : kind ≡ 3 → (b .x0 ≡ curl (g .j3) (g .j0) x) × (b .x1 ≡ curl (g .j4) (g .j1) x) × (b .x2 ≡ curl (g .j5) (g .j2) x)
 
+-- the value of a kind from these, with the two jdets
 unfoldable pub fromSides : ℕ → Float → Float → Float → Float → Side → Float → Float → Float
 fromSides kind c a0 a1 a2 b s r = cond (eqb kind 3) (c ⊗ (a0 ⊗ b .x0 ⊕ a1 ⊗ b .x1 ⊕ a2 ⊗ b .x2) ⊘ s ⊘ r) (a0 ⊗ b .x0)

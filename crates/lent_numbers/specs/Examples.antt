@@ -1,4 +1,4 @@
--- F1 and F2 of the paper, and two examples beside them whose sums are not exact, so that they tell another order of products apart.
+-- F1 and F2 of the paper, and beside them two whose sums are not exact, so that they tell another order of products apart, and three of several points.
 -- Assumes nothing.
 use mathlib.Core.Path.{refl}
 use mathlib.Core.Bool.{true, false}
@@ -92,7 +92,7 @@ pub F2-rounded-holds : Holds F2-rounded
 unfolding opened-lent-numbers
 F2-rounded-holds = refl
 
--- Beside the paper's, where each number of a list counts. A point with jdet 1 and the normal (1,0,0)
+-- Lists of more than one point. A point with jdet 1 and the normal (1,0,0)
 abbrev along : List Float
 along = 1· ∷ 1· ∷ 0· ∷ 0· ∷ 0· ∷ 0· ∷ 0· ∷ 0· ∷ 0· ∷ 0· ∷ []
 

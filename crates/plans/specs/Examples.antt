@@ -1,4 +1,4 @@
--- M6 to M8 of the paper, as planning answers them. Assumes nothing.
+-- M4 and M6 to M8 of the paper, as planning answers them, and several faults at once. Assumes nothing.
 use Prim.Native.Nat.{ℕ, _+_}
 use mathlib.Core.List.{[], _∷_}
 use mathlib.Core.Path.{refl}

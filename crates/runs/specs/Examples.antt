@@ -1,4 +1,4 @@
--- What the calls answer on one cell with one DOF, and on runs and plans that no planning gave: 20 to 23, in their order. Assumes nothing.
+-- What the calls answer on one cell with one DOF, and on runs and plans that no planning gave: 20 to 23. Assumes nothing.
 use Prim.Native.Nat.{ℕ}
 use mathlib.Core.Path.{refl}
 use mathlib.Core.Bool.{Bool, true, false}
@@ -10,11 +10,11 @@ use Rattle.integrands.specs.declared.Term.the-variants.{Bare}
 use Rattle.integrands.specs.Examples.{1·}
 use Rattle.lent_numbers.specs.Lent.{Touching, touching, Distant, distant}
 use Rattle.lent_numbers.specs.Examples.{opened-lent-numbers}
-use Rattle.work_records.specs.Records.{recordAt}
+use Rattle.work_records.specs.Records.{rec, recordAt}
 use Rattle.plans.specs.Planning.{PlanNumbers}
 use Rattle.runs.specs.Runs.{Run, Plan, planOf, Answer, found, accepted, refused, cellDofs, rangesRight, placesRight, planRight, matrixRight, pairLeft, recordKnown, recordRight, lookRefusal, distantRefusal, touchingRefusal, look, addDistant, addTouching}
 
--- opens the definitions of this crate and of those below it
+-- opens the definitions that the calls cite
 unfoldable pub opened-runs : Unit {0}
 unfolding opened-function opened-lent-numbers recordAt cellDofs rangesRight placesRight planRight matrixRight pairLeft recordKnown recordRight lookRefusal distantRefusal touchingRefusal look addDistant addTouching
 opened-runs = tt
@@ -50,13 +50,21 @@ number (refused n) = n
 abbrev looked : Run → Plan → ℕ
 looked r l = number (look r l .answer)
 
--- look: record 0; 20 after the last, 21 past it; 21 where a plan has another length; 22 for another pattern, a cell not below 1, a DOF not below 1
+-- look answers record 0
+abbrev pub first-look : Example
+first-look = example (look (at false 0) right .answer) (found (rec 27 0 0))
+
+pub first-look-holds : Holds first-look
+unfolding opened-runs
+first-look-holds = refl
+
+-- look: 20 after the last record, 21 past it; 21 where the plan has another length, before 20 too; 22 for another pattern, a cell not below 1, a DOF not below 1
 abbrev pub looks-answered : Example
 looks-answered =
     example
-    (looked (at false 0) right
-    ∷ looked (at false 1) right
+    (looked (at false 1) right
     ∷ looked (at false 2) right
+    ∷ looked (at false 1) (planOf (0 ∷ []) (0 ∷ []) [])
     ∷ looked (at false 0) (planOf (0 ∷ []) (0 ∷ []) [])
     ∷ looked (at false 0) (planOf (0 ∷ []) (0 ∷ []) (28 ∷ 0 ∷ 0 ∷ []))
     ∷ looked (at false 0) (planOf (0 ∷ []) (0 ∷ []) (27 ∷ 1 ∷ 0 ∷ []))
@@ -64,13 +72,13 @@ looks-answered =
     ∷ looked (at false 0) (planOf (1 ∷ []) (0 ∷ []) (27 ∷ 0 ∷ 0 ∷ []))
     ∷ looked (at false 0) (planOf (0 ∷ []) (1 ∷ []) (27 ∷ 0 ∷ 0 ∷ []))
     ∷ [])
-    (0 ∷ 20 ∷ 21 ∷ 21 ∷ 22 ∷ 22 ∷ 22 ∷ 22 ∷ 22 ∷ [])
+    (20 ∷ 21 ∷ 21 ∷ 21 ∷ 22 ∷ 22 ∷ 22 ∷ 22 ∷ 22 ∷ [])
 
 pub looks-answered-hold : Holds looks-answered
 unfolding opened-runs
 looks-answered-hold = refl
 
--- adds that are lent nothing: 9 where all before it passes; 23 for a record, or a run, of the other kind; 21 before both, where the matrix has another length
+-- adds that are lent nothing: 9 where all before it passes; 23 for a record, or a run, of the other kind; 22 before 23, and 21 before both
 abbrev nothing : Touching
 nothing = touching 0 [] [] [] [] [] []
 
@@ -85,9 +93,11 @@ adds-answered =
     ∷ number (addTouching (at true 0) right M nothing .answer)
     ∷ number (addTouching (at true 0) right [] nothing .answer)
     ∷ number (addDistant (at false 0) right M nothing-distant .answer)
+    ∷ number (addDistant (at false 0) (planOf (0 ∷ []) (1 ∷ []) (27 ∷ 0 ∷ 0 ∷ [])) M nothing-distant .answer)
+    ∷ number (addDistant (at true 0) (planOf (0 ∷ []) (0 ∷ []) (255 ∷ 0 ∷ 0 ∷ [])) M nothing-distant .answer)
     ∷ number (addDistant (at false 0) (planOf (0 ∷ []) (0 ∷ []) (255 ∷ 0 ∷ 0 ∷ [])) M nothing-distant .answer)
     ∷ [])
-    (9 ∷ 23 ∷ 21 ∷ 23 ∷ 9 ∷ [])
+    (9 ∷ 23 ∷ 21 ∷ 23 ∷ 22 ∷ 23 ∷ 9 ∷ [])
 
 pub adds-answered-hold : Holds adds-answered
 unfolding opened-runs

@@ -3,7 +3,7 @@
 use Prim.Native.Nat.{ℕ, _*_, _<_, _≤_}
 use native.Mathlib.Nat.{zero-add}
 use native.Mathlib.Omega.{arith}
-use mathlib.Core.Path.{_≡_, refl, ap, _∙_}
+use mathlib.Core.Path.{_≡_, refl, sym, ap, _∙_}
 use mathlib.Core.Bool.{false, cond}
 use mathlib.Core.List.{List}
 use lib.ListN.{length, getD, take}
@@ -36,7 +36,8 @@ pub record ThirdProperty (x : Planning) (calls : List Call) (M : List Float) (li
   pub size : length (q .matrix) ≡ length M
   pub entries : (at : ℕ) → at < length M
       → getD (q .matrix) at nan ≡ plusAll (entriesFrom (machineOf x false) 0 (taken calls (q .answers)) at) (getD M at nan)
-  -- no ordered pair of cells has entered twice, and where p = C·C each has entered once
+  -- as many adds were taken as p says, so the pairs that entered are those of the first p records: no ordered pair of cells has entered twice, and where p = C·C each has entered once
+  pub all-taken : length (taken calls (q .answers)) ≡ q .run .position
   pub never-twice : (i j : ℕ) → i < x .mesh .cells → j < x .mesh .cells → count (ofPair i j) (take (q .run .position) (workRecords x)) ≤ 1
   pub each-once : q .run .position ≡ x .mesh .cells * x .mesh .cells → (i j : ℕ) → i < x .mesh .cells → j < x .mesh .cells
       → count (ofPair i j) (take (q .run .position) (workRecords x)) ≡ 1
@@ -63,6 +64,7 @@ module _ (x : Planning) (l : Lists) (n : PlanNumbers) (e : plan x l ≡ ready n)
         within = machine-between x l n e false calls M lists .to;
         size = ap length (r .matrix) ∙ length-pairs m 0 _ M;
         entries = λ at h. ap (λ (A : List Float). getD A at nan) (r .matrix) ∙ pairs-place m 0 _ M at h;
+        all-taken = r .count ∙ sym (r .position ∙ zero-add _);
         never-twice = λ i j hi hj. omega (arith, count-take (ofPair i j) (machineRun m calls M lists .position) (workRecords x), once-all i j hi hj);
         each-once = λ end i j hi hj. rw end (ap (count (ofPair i j)) (take-all (x .mesh .cells * x .mesh .cells) (workRecords x) (omega (arith, work-long))) ∙ once-all i j hi hj);
         looked = λ k h c. each k h ∙ ap (answerAt m _ M lists) c ∙ look-answer m _ M lists;

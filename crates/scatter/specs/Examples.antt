@@ -1,8 +1,7 @@
 -- A local matrix of two test and two trial basis functions, put into a matrix of three rows and into entry lists. Assumes nothing.
 use Prim.Native.Nat.{ℕ, zero, suc}
 use mathlib.Core.Path.{refl}
-use mathlib.Core.List.{List, [], _∷_, map}
-use lib.ListN.{set}
+use mathlib.Core.List.{[], _∷_}
 use lib.Ieee.{Float}
 use Rattle.lists.specs.Examples.{Example, example, Holds}
 use Rattle.integrands.specs.Examples.{0·, 1·, 2·, 3·, 4·, opened-integrands}

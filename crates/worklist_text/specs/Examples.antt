@@ -11,9 +11,9 @@ use Rattle.job.specs.Examples.{opened-job}
 use Rattle.worklist_text.specs.Text.{digits, lineOf, refusedLine, jobPlanning, worklistRefusal, worklist}
 
 -- opens the definitions of this crate and of those below it
-unfoldable pub opened-job-text : Unit {0}
+unfoldable pub opened-worklist-text : Unit {0}
 unfolding opened-plans opened-job digits lineOf refusedLine jobPlanning worklistRefusal worklist
-opened-job-text = tt
+opened-worklist-text = tt
 
 -- a number as 2 bytes
 abbrev bytes : ℕ → List ℕ
@@ -79,7 +79,7 @@ abbrev pub M4 : Example
 M4 = example (worklist (jobOf M 2)) (255·2·0 ++ 255·0·2 ++ 255·2·1 ++ 255·1·2 ++ 11·0·1 ++ 15·1·0 ++ 27·0·0 ++ 27·1·1 ++ 27·2·2)
 
 pub M4-holds : Holds M4
-unfolding opened-job-text
+unfolding opened-worklist-text
 M4-holds = refl
 
 -- M5: batch 1: the first two lines trade places
@@ -87,7 +87,7 @@ abbrev pub M5 : Example
 M5 = example (worklist (jobOf M 1)) (255·0·2 ++ 255·2·0 ++ 255·2·1 ++ 255·1·2 ++ 11·0·1 ++ 15·1·0 ++ 27·0·0 ++ 27·1·1 ++ 27·2·2)
 
 pub M5-holds : Holds M5
-unfolding opened-job-text
+unfolding opened-worklist-text
 M5-holds = refl
 
 -- M7: cells (0,1,2), (1,2,0), batch 1: 7
@@ -95,7 +95,7 @@ abbrev pub M7-turned-text : Example
 M7-turned-text = example (worklist (jobOf M7-turned 1)) (refused·7)
 
 pub M7-turned-text-holds : Holds M7-turned-text
-unfolding opened-job-text
+unfolding opened-worklist-text
 M7-turned-text-holds = refl
 
 -- M7: cells (0,1,2) twice: four records of 27
@@ -103,7 +103,7 @@ abbrev pub M7-twice-text : Example
 M7-twice-text = example (worklist (jobOf M7-twice 1)) (27·0·0 ++ 27·0·1 ++ 27·1·0 ++ 27·1·1)
 
 pub M7-twice-text-holds : Holds M7-twice-text
-unfolding opened-job-text
+unfolding opened-worklist-text
 M7-twice-text-holds = refl
 
 -- M8: M planned with batch 0: 5
@@ -111,7 +111,7 @@ abbrev pub M8-batch-text : Example
 M8-batch-text = example (worklist (jobOf M 0)) (refused·5)
 
 pub M8-batch-text-holds : Holds M8-batch-text
-unfolding opened-job-text
+unfolding opened-worklist-text
 M8-batch-text-holds = refl
 
 -- Beside the paper's: the job of M4 one byte short is 12
@@ -119,7 +119,7 @@ abbrev pub M4-short : Example
 M4-short = example (worklist (take 54 (jobOf M 2))) (refused·12)
 
 pub M4-short-holds : Holds M4-short
-unfolding opened-job-text
+unfolding opened-worklist-text
 M4-short-holds = refl
 
 -- and one byte longer
@@ -127,7 +127,7 @@ abbrev pub M4-longer : Example
 M4-longer = example (worklist (jobOf M 2 ++ 0 ∷ [])) (refused·12)
 
 pub M4-longer-holds : Holds M4-longer
-unfolding opened-job-text
+unfolding opened-worklist-text
 M4-longer-holds = refl
 
 -- a whole job of 65 cells is 13
@@ -135,5 +135,5 @@ abbrev pub job-large : Example
 job-large = example (worklist (jobOf (record { cells = 65; vertices = 3; edges = 3; cellVertices = replicate 195 0; cellEdges = replicate 195 0 }) 1)) (refused·13)
 
 pub job-large-holds : Holds job-large
-unfolding opened-job-text
+unfolding opened-worklist-text
 job-large-holds = refl
