@@ -7,10 +7,10 @@ use Rattle.integrands.specs.Examples.{F3, F4, F3-holds, F4-holds, double, norma
 use Rattle.lent_numbers.specs.Examples.{F1, F2, F1-rounded, F2-rounded, F1-holds, F2-holds, F1-rounded-holds, F2-rounded-holds, two-points, four-pairs, point-order, two-points-hold, four-pairs-hold, point-order-holds}
 use Rattle.scatter.specs.Examples.{added, rows-columns, values, added-holds, rows-columns-hold, values-hold}
 use Rattle.cell_pairs.specs.Examples.{M4-records, M5-records, M7-records, M4-records-holds, M5-records-holds, M7-records-holds, patterns, patterns-hold}
-use Rattle.plans.specs.Examples.{M-planned, M-sizes, M6-distant, M6-touching, M6-sum, M7-refused, M7-planned, M7-work, M7-work-holds, M4-work, two-elements, first-fault, no-room, M4-work-holds, two-elements-hold, first-fault-holds, no-room-holds, M8-batch, M8-cells, M-planned-holds, M-sizes-holds, M6-distant-holds, M6-touching-holds, M6-sum-holds, M7-refused-holds, M7-planned-holds, M8-batch-holds, M8-cells-holds}
+use Rattle.plans.specs.Examples.{M-planned, M-sizes, M6, M7, M7-work, M8, work-lists, first-fault, M-planned-holds, M-sizes-holds, M6-holds, M7-holds, M7-work-holds, M8-holds, work-lists-hold, first-fault-holds}
 use Rattle.runs.specs.Examples.{first-look, looks-answered, adds-answered, first-look-holds, looks-answered-hold, adds-answered-hold}
-use Rattle.job.specs.Examples.{M4-read, M4-vertices, M4-edges, short-refused, short-vertices, large-limited, large-free, M4-read-holds, M4-vertices-holds, M4-edges-holds, short-refused-holds, short-vertices-holds, large-limited-holds, large-free-holds}
-use Rattle.worklist_text.specs.Examples.{M4, M5, M7-turned-text, M7-twice-text, M8-batch-text, M4-short, M4-longer, job-large, M4-holds, M5-holds, M7-turned-text-holds, M7-twice-text-holds, M8-batch-text-holds, M4-short-holds, M4-longer-holds, job-large-holds}
+use Rattle.job.specs.Examples.{M4-read, M4-lists, read-numbers, M4-read-holds, M4-lists-hold, read-numbers-hold}
+use Rattle.worklist_text.specs.Examples.{M4, M5, M7-twice-text, refused-texts, M4-holds, M5-holds, M7-twice-text-holds, refused-texts-hold}
 
 -- the paper's
 abbrev pub examples : List Example
@@ -20,11 +20,11 @@ examples =
     -- M4 and M5: what `worklist` prints
     ∷ M4 ∷ M5
     -- M6: N, S, and their sum, of what planning hands back
-    ∷ M6-distant ∷ M6-touching ∷ M6-sum
+    ∷ M6
     -- M7: turned, planning answers 7; twice, it accepts, with four records of 27
-    ∷ M7-refused ∷ M7-planned ∷ M7-work
+    ∷ M7 ∷ M7-work
     -- M8: batch 0; C = 2,049
-    ∷ M8-batch ∷ M8-cells
+    ∷ M8
     ∷ F1 ∷ F2 ∷ F3 ∷ F4
     ∷ []
 
@@ -36,14 +36,10 @@ theorem =
     and-also M3-colours-holds
     and-also M4-holds
     and-also M5-holds
-    and-also M6-distant-holds
-    and-also M6-touching-holds
-    and-also M6-sum-holds
-    and-also M7-refused-holds
-    and-also M7-planned-holds
+    and-also M6-holds
+    and-also M7-holds
     and-also M7-work-holds
-    and-also M8-batch-holds
-    and-also M8-cells-holds
+    and-also M8-holds
     and-also F1-holds
     and-also F2-holds
     and-also F3-holds
@@ -56,35 +52,27 @@ theorem =
 -- several faults, and what look and the adds answer to runs and plans that no planning gave
 abbrev pub more : List Example
 more =
-    M4-records ∷ M5-records ∷ M-planned ∷ M-sizes ∷ M7-turned-text ∷ M7-twice-text ∷ M8-batch-text
-    ∷ M4-short ∷ M4-longer ∷ job-large ∷ M4-read ∷ M4-vertices ∷ M4-edges ∷ short-refused ∷ short-vertices ∷ large-limited ∷ large-free ∷ M2-owners ∷ M2-count
-    ∷ F1-rounded ∷ F2-rounded ∷ M7-records ∷ by-edges ∷ two-an-edge ∷ two-owners ∷ patterns ∷ double ∷ normals ∷ factor ∷ two ∷ one ∷ two-points ∷ four-pairs ∷ point-order
-    ∷ added ∷ rows-columns ∷ values ∷ M4-work ∷ two-elements ∷ first-fault ∷ no-room ∷ first-look ∷ looks-answered ∷ adds-answered ∷ []
+    M4-records ∷ M5-records ∷ M7-records ∷ M-planned ∷ M-sizes ∷ M7-twice-text ∷ refused-texts ∷ M4-read ∷ M4-lists
+    ∷ read-numbers ∷ M2-owners ∷ M2-count ∷ F1-rounded ∷ F2-rounded ∷ by-edges ∷ two-an-edge ∷ two-owners ∷ patterns
+    ∷ double ∷ normals ∷ factor ∷ two ∷ one ∷ two-points ∷ four-pairs ∷ point-order ∷ added
+    ∷ rows-columns ∷ values ∷ work-lists ∷ first-fault ∷ first-look ∷ looks-answered ∷ adds-answered ∷ []
 
 pub more-hold : Agree more
 more-hold =
     M4-records-holds
     and-also M5-records-holds
+    and-also M7-records-holds
     and-also M-planned-holds
     and-also M-sizes-holds
-    and-also M7-turned-text-holds
     and-also M7-twice-text-holds
-    and-also M8-batch-text-holds
-    and-also M4-short-holds
-    and-also M4-longer-holds
-    and-also job-large-holds
+    and-also refused-texts-hold
     and-also M4-read-holds
-    and-also M4-vertices-holds
-    and-also M4-edges-holds
-    and-also short-refused-holds
-    and-also short-vertices-holds
-    and-also large-limited-holds
-    and-also large-free-holds
+    and-also M4-lists-hold
+    and-also read-numbers-hold
     and-also M2-owners-holds
     and-also M2-count-holds
     and-also F1-rounded-holds
     and-also F2-rounded-holds
-    and-also M7-records-holds
     and-also by-edges-holds
     and-also two-an-edge-holds
     and-also two-owners-holds
@@ -100,10 +88,8 @@ more-hold =
     and-also added-holds
     and-also rows-columns-hold
     and-also values-hold
-    and-also M4-work-holds
-    and-also two-elements-hold
+    and-also work-lists-hold
     and-also first-fault-holds
-    and-also no-room-holds
     and-also first-look-holds
     and-also looks-answered-hold
     and-also adds-answered-hold

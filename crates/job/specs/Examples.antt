@@ -32,51 +32,24 @@ pub M4-read-holds : Holds M4-read
 unfolding opened-job
 M4-read-holds = refl
 
--- a list that is longer than 3C keeps its tail
-abbrev pub M4-vertices : Example
-M4-vertices = example (vertexList m4 true (replicate 11 99)) (M .cellVertices ++ 99 ∷ 99 ∷ [])
+-- a list that is longer than 3C keeps its tail, one that is shorter gets as many as it has room for; where a byte is missing nothing is written
+abbrev pub M4-lists : Example
+M4-lists =
+    example
+    (vertexList m4 true (replicate 11 99) ∷ edgeList m4 true (replicate 5 99) ∷ vertexList (take 54 m4) false (replicate 9 99) ∷ [])
+    ((M .cellVertices ++ 99 ∷ 99 ∷ []) ∷ take 5 (M .cellEdges) ∷ replicate 9 99 ∷ [])
 
-pub M4-vertices-holds : Holds M4-vertices
+pub M4-lists-hold : Holds M4-lists
 unfolding opened-job
-M4-vertices-holds = refl
+M4-lists-hold = refl
 
--- one that is shorter gets as many as it has room for
-abbrev pub M4-edges : Example
-M4-edges = example (edgeList m4 true (replicate 5 99)) (take 5 (M .cellEdges))
-
-pub M4-edges-holds : Holds M4-edges
-unfolding opened-job
-M4-edges-holds = refl
-
--- one byte short: 12, and nothing is written
-abbrev pub short-refused : Example
-short-refused = example (readNumber (readJob (take 54 m4) false)) 12
-
-pub short-refused-holds : Holds short-refused
-unfolding opened-job
-short-refused-holds = refl
-
-abbrev pub short-vertices : Example
-short-vertices = example (vertexList (take 54 m4) false (replicate 9 99)) (replicate 9 99)
-
-pub short-vertices-holds : Holds short-vertices
-unfolding opened-job
-short-vertices-holds = refl
-
--- 65 cells: 13 where the job is limited to 64, and else no refusal
+-- M4 one byte short: 12. 65 cells: 13 where the job is limited to 64, and else no refusal
 abbrev large : List ℕ
 large = 0 ∷ 0 ∷ 3 ∷ 27 ∷ 1 ∷ 0 ∷ 65 ∷ replicate 792 0
 
-abbrev pub large-limited : Example
-large-limited = example (readNumber (readJob large true)) 13
+abbrev pub read-numbers : Example
+read-numbers = example (readNumber (readJob (take 54 m4) false) ∷ readNumber (readJob large true) ∷ readNumber (readJob large false) ∷ []) (12 ∷ 13 ∷ 0 ∷ [])
 
-pub large-limited-holds : Holds large-limited
+pub read-numbers-hold : Holds read-numbers
 unfolding opened-job
-large-limited-holds = refl
-
-abbrev pub large-free : Example
-large-free = example (readNumber (readJob large false)) 0
-
-pub large-free-holds : Holds large-free
-unfolding opened-job
-large-free-holds = refl
+read-numbers-hold = refl

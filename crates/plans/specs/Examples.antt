@@ -43,26 +43,14 @@ unfolding opened-plans
 M-planned-holds = refl
 
 -- M6: N = 4, S = 5, 4 + 5 = 9, of what planning hands back
-abbrev pub M6-distant : Example
-M6-distant = example (handed (λ n. n .distant) (vertexDofs M 2)) 4
+abbrev pub M6 : Example
+M6 =
+    let x : Planning = vertexDofs M 2 in
+    example (handed (λ n. n .distant) x ∷ handed (λ n. n .touching) x ∷ handed (λ n. n .distant + n .touching) x ∷ []) (4 ∷ 5 ∷ 9 ∷ [])
 
-pub M6-distant-holds : Holds M6-distant
+pub M6-holds : Holds M6
 unfolding opened-plans
-M6-distant-holds = refl
-
-abbrev pub M6-touching : Example
-M6-touching = example (handed (λ n. n .touching) (vertexDofs M 2)) 5
-
-pub M6-touching-holds : Holds M6-touching
-unfolding opened-plans
-M6-touching-holds = refl
-
-abbrev pub M6-sum : Example
-M6-sum = example (handed (λ n. n .distant + n .touching) (vertexDofs M 2)) 9
-
-pub M6-sum-holds : Holds M6-sum
-unfolding opened-plans
-M6-sum-holds = refl
+M6-holds = refl
 
 -- Beside the paper's: rows are the test element's DOFs, columns the trial element's. M has 7 vertices and 3 cells
 abbrev pub M-sizes : Example
@@ -75,58 +63,41 @@ unfolding opened-plans
 M-sizes-holds = refl
 
 -- M4 as planning leaves it in the work list, and the like with one DOF a cell for trial, whose colours are 0, 0, 0
-abbrev pub M4-work : Example
-M4-work =
+abbrev pub work-lists : Example
+work-lists =
     let x : Planning = vertexDofs M 2 in
-    example (planLists x (listsFor x) .work)
-    (flat (rec 255 2 0 ∷ rec 255 0 2 ∷ rec 255 2 1 ∷ rec 255 1 2 ∷ rec 11 0 1 ∷ rec 15 1 0 ∷ rec 27 0 0 ∷ rec 27 1 1 ∷ rec 27 2 2 ∷ []))
+    let y : Planning = record { mesh = M; test = element 1 0 0; trial = element 0 0 1; batch = 2; integrand = x .integrand } in
+    example (planLists x (listsFor x) .work ∷ planLists y (listsFor y) .work ∷ [])
+    (flat (rec 255 2 0 ∷ rec 255 0 2 ∷ rec 255 2 1 ∷ rec 255 1 2 ∷ rec 11 0 1 ∷ rec 15 1 0 ∷ rec 27 0 0 ∷ rec 27 1 1 ∷ rec 27 2 2 ∷ [])
+    ∷ flat (rec 255 2 0 ∷ rec 255 2 1 ∷ rec 255 0 2 ∷ rec 255 1 2 ∷ rec 11 0 1 ∷ rec 15 1 0 ∷ rec 27 0 0 ∷ rec 27 1 1 ∷ rec 27 2 2 ∷ [])
+    ∷ [])
 
-pub M4-work-holds : Holds M4-work
+pub work-lists-hold : Holds work-lists
 unfolding opened-plans
-M4-work-holds = refl
-
-abbrev pub two-elements : Example
-two-elements =
-    let x : Planning = record { mesh = M; test = element 1 0 0; trial = element 0 0 1; batch = 2; integrand = vertexDofs M 2 .integrand } in
-    example (planLists x (listsFor x) .work)
-    (flat (rec 255 2 0 ∷ rec 255 2 1 ∷ rec 255 0 2 ∷ rec 255 1 2 ∷ rec 11 0 1 ∷ rec 15 1 0 ∷ rec 27 0 0 ∷ rec 27 1 1 ∷ rec 27 2 2 ∷ []))
-
-pub two-elements-hold : Holds two-elements
-unfolding opened-plans
-two-elements-hold = refl
+work-lists-hold = refl
 
 -- the first check that fails answers: an element without DOFs and batch 0, 4; and M with a work list of no length, 8
 abbrev pub first-fault : Example
-first-fault = example (number (record { mesh = M; test = element 0 0 0; trial = element 1 0 0; batch = 0; integrand = vertexDofs M 2 .integrand })) 4
+first-fault =
+    let x : Planning = vertexDofs M 2 in
+    let l : Lists = listsFor x in
+    example
+    (number (record { mesh = M; test = element 0 0 0; trial = element 1 0 0; batch = 0; integrand = x .integrand })
+    ∷ plannedNumber (plan x (listsOf (l .testDofs) (l .trialDofs) (l .testColours) (l .trialColours) (l .testOwners) (l .trialOwners) []))
+    ∷ [])
+    (4 ∷ 8 ∷ [])
 
 pub first-fault-holds : Holds first-fault
 unfolding opened-plans
 first-fault-holds = refl
 
-abbrev pub no-room : Example
-no-room =
-    let x : Planning = vertexDofs M 2 in
-    let l : Lists = listsFor x in
-    example (plannedNumber (plan x (listsOf (l .testDofs) (l .trialDofs) (l .testColours) (l .trialColours) (l .testOwners) (l .trialOwners) []))) 8
-
-pub no-room-holds : Holds no-room
-unfolding opened-plans
-no-room-holds = refl
-
 -- M7: cells (0,1,2), (1,2,0): 7. Cells (0,1,2) twice are accepted
-abbrev pub M7-refused : Example
-M7-refused = example (number (vertexDofs M7-turned 1)) 7
+abbrev pub M7 : Example
+M7 = example (number (vertexDofs M7-turned 1) ∷ number (vertexDofs M7-twice 1) ∷ []) (7 ∷ 0 ∷ [])
 
-pub M7-refused-holds : Holds M7-refused
+pub M7-holds : Holds M7
 unfolding opened-plans
-M7-refused-holds = refl
-
-abbrev pub M7-planned : Example
-M7-planned = example (number (vertexDofs M7-twice 1)) 0
-
-pub M7-planned-holds : Holds M7-planned
-unfolding opened-plans
-M7-planned-holds = refl
+M7-holds = refl
 
 -- and leave four records of 27
 abbrev pub M7-work : Example
@@ -139,16 +110,9 @@ unfolding opened-plans
 M7-work-holds = refl
 
 -- M8: M planned with batch 0: 5. C = 2,049: 1
-abbrev pub M8-batch : Example
-M8-batch = example (number (vertexDofs M 0)) 5
+abbrev pub M8 : Example
+M8 = example (number (vertexDofs M 0) ∷ number (vertexDofs M8-large 1) ∷ []) (5 ∷ 1 ∷ [])
 
-pub M8-batch-holds : Holds M8-batch
+pub M8-holds : Holds M8
 unfolding opened-plans
-M8-batch-holds = refl
-
-abbrev pub M8-cells : Example
-M8-cells = example (number (vertexDofs M8-large 1)) 1
-
-pub M8-cells-holds : Holds M8-cells
-unfolding opened-plans
-M8-cells-holds = refl
+M8-holds = refl

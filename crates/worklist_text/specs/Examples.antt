@@ -90,14 +90,6 @@ pub M5-holds : Holds M5
 unfolding opened-worklist-text
 M5-holds = refl
 
--- M7: cells (0,1,2), (1,2,0), batch 1: 7
-abbrev pub M7-turned-text : Example
-M7-turned-text = example (worklist (jobOf M7-turned 1)) (refused·7)
-
-pub M7-turned-text-holds : Holds M7-turned-text
-unfolding opened-worklist-text
-M7-turned-text-holds = refl
-
 -- M7: cells (0,1,2) twice: four records of 27
 abbrev pub M7-twice-text : Example
 M7-twice-text = example (worklist (jobOf M7-twice 1)) (27·0·0 ++ 27·0·1 ++ 27·1·0 ++ 27·1·1)
@@ -106,34 +98,19 @@ pub M7-twice-text-holds : Holds M7-twice-text
 unfolding opened-worklist-text
 M7-twice-text-holds = refl
 
--- M8: M planned with batch 0: 5
-abbrev pub M8-batch-text : Example
-M8-batch-text = example (worklist (jobOf M 0)) (refused·5)
+-- M7: cells (0,1,2), (1,2,0), batch 1: 7. M8: M planned with batch 0: 5. Beside the paper's: the job of M4 one byte short, and one byte longer, is 12; a whole job
+-- of 65 cells is 13
+abbrev pub refused-texts : Example
+refused-texts =
+    example
+    (worklist (jobOf M7-turned 1)
+    ∷ worklist (jobOf M 0)
+    ∷ worklist (take 54 (jobOf M 2))
+    ∷ worklist (jobOf M 2 ++ 0 ∷ [])
+    ∷ worklist (jobOf (record { cells = 65; vertices = 3; edges = 3; cellVertices = replicate 195 0; cellEdges = replicate 195 0 }) 1)
+    ∷ [])
+    (refused·7 ∷ refused·5 ∷ refused·12 ∷ refused·12 ∷ refused·13 ∷ [])
 
-pub M8-batch-text-holds : Holds M8-batch-text
+pub refused-texts-hold : Holds refused-texts
 unfolding opened-worklist-text
-M8-batch-text-holds = refl
-
--- Beside the paper's: the job of M4 one byte short is 12
-abbrev pub M4-short : Example
-M4-short = example (worklist (take 54 (jobOf M 2))) (refused·12)
-
-pub M4-short-holds : Holds M4-short
-unfolding opened-worklist-text
-M4-short-holds = refl
-
--- and one byte longer
-abbrev pub M4-longer : Example
-M4-longer = example (worklist (jobOf M 2 ++ 0 ∷ [])) (refused·12)
-
-pub M4-longer-holds : Holds M4-longer
-unfolding opened-worklist-text
-M4-longer-holds = refl
-
--- a whole job of 65 cells is 13
-abbrev pub job-large : Example
-job-large = example (worklist (jobOf (record { cells = 65; vertices = 3; edges = 3; cellVertices = replicate 195 0; cellEdges = replicate 195 0 }) 1)) (refused·13)
-
-pub job-large-holds : Holds job-large
-unfolding opened-worklist-text
-job-large-holds = refl
+refused-texts-hold = refl
