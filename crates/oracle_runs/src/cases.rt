@@ -1,10 +1,8 @@
-// The head of a case, and the lengths of its lists.
+// The head of a case.
 use grid::Sizes;
-use numbers::wide;
 use planning::Assembly;
 use recorded::digit_at;
 use recorded_plans::read_head;
-ghost use Prim.Native.Nat.{_≤_};
 
 // What planning is given, the point counts, and planning's refusal, or 0.
 pub struct Case {
@@ -29,11 +27,4 @@ pub fn read_case(fd: i32) -> Case {
         points: digit_at(&forms, 13) as usize,
         refusal: digit_at(&forms, 14) as u32,
     }
-}
-
-// Length i of the lists of a case.
-pub fn length_at(lengths: &[u32; 24], i: usize) -> usize
-    requires { ⌜ i ≤ 23 ⌝ }
-{
-    wide(lengths[i])
 }

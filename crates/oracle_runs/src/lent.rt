@@ -1,20 +1,18 @@
-// Parts of lists, and where the lists lent to an add begin.
+// The lengths of a case, and the parts of lists that are lent.
 use numbers::wide;
 use std::num::wrapping_add_usize;
-ghost use Prim.Native.Nat.{_≤_};
 
-// n, or 0 where a list is shorter.
-pub fn within(n: usize, most: usize) -> usize
-    ensures { λ r. ⌜ r ≤ most ⌝ }
-{
-    if n <= most {
-        return n;
+// Length i of the lists of a case.
+pub fn length_at(lengths: &[u32; 24], i: usize) -> usize {
+    if i < 24 {
+        return wide(lengths[i]);
     }
     0
 }
 
-// The first n numbers; all of them where there are fewer.
-pub fn front(list: &[u32], n: usize) -> &[u32] {
+// The front of a list that has length i; the whole list where it is shorter.
+pub fn front<'a>(list: &'a [u32], lengths: &[u32; 24], i: usize) -> &'a [u32] {
+    let n = length_at(lengths, i);
     if list.len() < n {
         return list;
     }
@@ -22,8 +20,24 @@ pub fn front(list: &[u32], n: usize) -> &[u32] {
     &list[start..n]
 }
 
-// The n floats from `start` on; the whole list where there are fewer, whose length an add turns down.
-pub fn part(list: &[f64], start: usize, n: usize) -> &[f64] {
+// The same of a list that is written.
+pub fn room<'a>(list: &'a mut [u32], lengths: &[u32; 24], i: usize) -> &'a mut [u32] {
+    let n = length_at(lengths, i);
+    if list.len() < n {
+        return list;
+    }
+    let start = 0;
+    &mut list[start..n]
+}
+
+// The same of floats, from `start` on.
+pub fn float_room<'a>(
+    list: &'a mut [f64],
+    start: usize,
+    lengths: &[u32; 24],
+    i: usize,
+) -> &'a mut [f64] {
+    let n = length_at(lengths, i);
     if list.len() < start {
         return list;
     }
@@ -31,19 +45,33 @@ pub fn part(list: &[f64], start: usize, n: usize) -> &[f64] {
         return list;
     }
     let end = start + n;
-    &list[start..end]
+    &mut list[start..end]
 }
 
-// Where list j of a record begins, the record's eight numbers standing from `at` on.
-pub fn place_at(places: &[u32], at: usize, j: usize) -> usize {
-    let i = wrapping_add_usize(at, j);
-    if i < places.len() {
-        return wide(places[i]);
+// List j of the record at a position: length k, from the place that stands in the record's eight. The whole list where there are fewer, whose length an add
+// turns down. The 400 floats of the geometry, which lists 5 and 6 are of, stand before the pool.
+pub fn lent<'a>(
+    floats: &'a [f64],
+    lengths: &[u32; 24],
+    places: &[u32; 4608],
+    position: u32,
+    j: usize,
+    k: usize,
+) -> &'a [f64] {
+    let at = wrapping_add_usize(8 * wide(position), j);
+    let place = if at < 4608 { wide(places[at]) } else { 0 };
+    let start = if j < 5 {
+        wrapping_add_usize(400, place)
+    } else {
+        place
+    };
+    let n = length_at(lengths, k);
+    if floats.len() < start {
+        return floats;
     }
-    0
-}
-
-// Where the eight numbers of the record at a position begin.
-pub fn eight(position: u32) -> usize {
-    8 * wide(position)
+    if floats.len() - start < n {
+        return floats;
+    }
+    let end = start + n;
+    &floats[start..end]
 }

@@ -6,10 +6,10 @@ mod lent;
 mod runs;
 
 use crate::cases::Case;
-use crate::cases::length_at;
 use crate::cases::read_case;
+use crate::lent::float_room;
 use crate::lent::front;
-use crate::lent::within;
+use crate::lent::room;
 use crate::runs::entries_agree;
 use crate::runs::matrix_agrees;
 use boundary_assemblers::PlanNumbers;
@@ -22,11 +22,13 @@ use recorded::read_numbers;
 use recorded::read_word;
 use recorded::same_numbers;
 
-// Whether planning's numbers and lists are the recorded ones.
-fn lists_agree(
+// Whether an accepted planning and both its runs give what is recorded.
+fn ready_agrees(
     fd: i32,
     n: PlanNumbers,
+    case: Case,
     lengths: &[u32; 24],
+    floats: &[f64; 912],
     test_dofs: &[u32],
     trial_dofs: &[u32],
     test_colours: &[u32],
@@ -36,276 +38,54 @@ fn lists_agree(
     work: &[u32],
 ) -> bool {
     let counts = [n.rows, n.columns, n.distant, n.touching];
-    if !same_numbers(fd, &counts) {
-        return false;
-    }
-    if !same_numbers(fd, test_dofs) {
-        return false;
-    }
-    if !same_numbers(fd, trial_dofs) {
-        return false;
-    }
-    if !same_numbers(fd, test_colours) {
-        return false;
-    }
-    if !same_numbers(fd, trial_colours) {
-        return false;
-    }
-    if !same_numbers(fd, front(test_owners, length_at(lengths, 8))) {
-        return false;
-    }
-    if !same_numbers(fd, front(trial_owners, length_at(lengths, 9))) {
-        return false;
-    }
-    same_numbers(fd, work)
-}
-
-// Whether both runs give what is recorded.
-fn runs_agree(
-    fd: i32,
-    n: PlanNumbers,
-    case: Case,
-    lengths: &[u32; 24],
-    geometry: &[f64],
-    pool: &[f64],
-    test_dofs: &[u32],
-    trial_dofs: &[u32],
-    work: &[u32],
-    places: &[u32],
-) -> bool {
+    let test_dofs = front(test_dofs, lengths, 1);
+    let trial_dofs = front(trial_dofs, lengths, 2);
+    let work = front(work, lengths, 6);
+    let same = same_numbers(fd, &counts)
+        & same_numbers(fd, test_dofs)
+        & same_numbers(fd, trial_dofs)
+        & same_numbers(fd, front(test_colours, lengths, 3))
+        & same_numbers(fd, front(trial_colours, lengths, 3))
+        & same_numbers(fd, front(test_owners, lengths, 8))
+        & same_numbers(fd, front(trial_owners, lengths, 9))
+        & same_numbers(fd, work);
+    let mut places = [0u32; 4608];
     let mut rows = [0u32; 768];
     let mut columns = [0u32; 768];
     let mut values = [0.0; 768];
-    let mut matrix = [0.0; 256];
-    let entries = length_at(lengths, 11);
-    let size = length_at(lengths, 10);
-    if 768 < entries {
-        return false;
-    }
-    if 256 < size {
-        return false;
-    }
-    let written = entries_agree(
+    let mut matrix = *floats;
+    read_numbers(fd, room(&mut places, lengths, 7));
+    let entries = entries_agree(
         fd,
         n,
         case,
         lengths,
-        geometry,
-        pool,
+        &places,
+        floats,
         test_dofs,
         trial_dofs,
         work,
-        places,
-        &mut rows[..entries],
-        &mut columns[..entries],
-        &mut values[..entries],
+        room(&mut rows, lengths, 11),
+        room(&mut columns, lengths, 11),
+        float_room(&mut values, 0, lengths, 11),
     );
-    if !written {
-        return false;
-    }
-    matrix_agrees(
+    let dense = matrix_agrees(
         fd,
         n,
         case,
         lengths,
-        geometry,
-        pool,
+        &places,
+        floats,
         test_dofs,
         trial_dofs,
         work,
-        places,
-        &mut matrix[..size],
-    )
-}
-
-// Whether an accepted planning and its runs give what is recorded.
-fn ready_agrees(
-    fd: i32,
-    n: PlanNumbers,
-    case: Case,
-    lengths: &[u32; 24],
-    geometry: &[f64],
-    pool: &[f64],
-    test_dofs: &[u32],
-    trial_dofs: &[u32],
-    test_colours: &[u32],
-    trial_colours: &[u32],
-    test_owners: &[u32],
-    trial_owners: &[u32],
-    work: &[u32],
-    places: &mut [u32],
-) -> bool {
-    let same = lists_agree(
-        fd,
-        n,
-        lengths,
-        test_dofs,
-        trial_dofs,
-        test_colours,
-        trial_colours,
-        test_owners,
-        trial_owners,
-        work,
+        float_room(&mut matrix, 400, lengths, 10),
     );
-    read_numbers(fd, places);
-    let runs = runs_agree(
-        fd,
-        n,
-        case,
-        lengths,
-        geometry,
-        pool,
-        test_dofs,
-        trial_dofs,
-        work,
-        places,
-    );
-    same & runs
-}
-
-// Whether planning's answer is the recorded one, and all that follows.
-fn answer_agrees(
-    fd: i32,
-    answer: Planned,
-    case: Case,
-    lengths: &[u32; 24],
-    geometry: &[f64],
-    pool: &[f64],
-    test_dofs: &[u32],
-    trial_dofs: &[u32],
-    test_colours: &[u32],
-    trial_colours: &[u32],
-    test_owners: &[u32],
-    trial_owners: &[u32],
-    work: &[u32],
-    places: &mut [u32],
-) -> bool {
-    match answer {
-        Planned::Refused(number) => number == case.refusal,
-        Planned::Ready(n) => {
-            let same = ready_agrees(
-                fd,
-                n,
-                case,
-                lengths,
-                geometry,
-                pool,
-                test_dofs,
-                trial_dofs,
-                test_colours,
-                trial_colours,
-                test_owners,
-                trial_owners,
-                work,
-                places,
-            );
-            same & (case.refusal == 0)
-        }
-    }
-}
-
-// Plans the mesh, and compares.
-fn plan_agrees(
-    fd: i32,
-    case: Case,
-    lengths: &[u32; 24],
-    geometry: &[f64],
-    pool: &[f64],
-    cell_vertices: &[u32],
-    cell_edges: &[u32],
-    test_dofs: &mut [u32],
-    trial_dofs: &mut [u32],
-    test_colours: &mut [u32],
-    trial_colours: &mut [u32],
-    test_owners: &mut [u32],
-    trial_owners: &mut [u32],
-    work: &mut [u32],
-    places: &mut [u32],
-) -> bool {
-    let answer = plan(
-        case.sizes,
-        cell_vertices,
-        cell_edges,
-        case.assembly,
-        test_dofs,
-        trial_dofs,
-        test_colours,
-        trial_colours,
-        test_owners,
-        trial_owners,
-        work,
-    );
-    answer_agrees(
-        fd,
-        answer,
-        case,
-        lengths,
-        geometry,
-        pool,
-        test_dofs,
-        trial_dofs,
-        test_colours,
-        trial_colours,
-        test_owners,
-        trial_owners,
-        work,
-        places,
-    )
-}
-
-// The next n numbers.
-fn read_front(fd: i32, list: &mut [u32], n: usize) {
-    let end = within(n, list.len());
-    read_numbers(fd, &mut list[..end]);
-}
-
-// The same, with lists of the lengths that the case names.
-fn sized_agrees(
-    fd: i32,
-    case: Case,
-    lengths: &[u32; 24],
-    geometry: &[f64],
-    pool: &[f64],
-    cell_vertices: &[u32],
-    cell_edges: &[u32],
-    test_dofs: &mut [u32],
-    trial_dofs: &mut [u32],
-    test_colours: &mut [u32],
-    trial_colours: &mut [u32],
-    test_owners: &mut [u32],
-    trial_owners: &mut [u32],
-    work: &mut [u32],
-    places: &mut [u32],
-) -> bool {
-    let rows = within(length_at(lengths, 1), test_dofs.len());
-    let columns = within(length_at(lengths, 2), trial_dofs.len());
-    let tests = within(length_at(lengths, 3), test_colours.len());
-    let trials = within(length_at(lengths, 3), trial_colours.len());
-    let test_places = within(length_at(lengths, 4), test_owners.len());
-    let trial_places = within(length_at(lengths, 5), trial_owners.len());
-    let records = within(length_at(lengths, 6), work.len());
-    let eights = within(length_at(lengths, 7), places.len());
-    plan_agrees(
-        fd,
-        case,
-        lengths,
-        geometry,
-        pool,
-        front(cell_vertices, length_at(lengths, 0)),
-        front(cell_edges, length_at(lengths, 0)),
-        &mut test_dofs[..rows],
-        &mut trial_dofs[..columns],
-        &mut test_colours[..tests],
-        &mut trial_colours[..trials],
-        &mut test_owners[..test_places],
-        &mut trial_owners[..trial_places],
-        &mut work[..records],
-        &mut places[..eights],
-    )
+    same & entries & dense & (case.refusal == 0)
 }
 
 // Reads a case whole and replays it, with arrays that are long enough for 24 cells.
-fn case_agrees(fd: i32, geometry: &[f64], pool: &[f64]) -> bool {
+fn case_agrees(fd: i32, floats: &[f64; 912]) -> bool {
     let case = read_case(fd);
     let mut lengths = [0u32; 24];
     let mut cell_vertices = [0u32; 72];
@@ -317,34 +97,46 @@ fn case_agrees(fd: i32, geometry: &[f64], pool: &[f64]) -> bool {
     let mut test_owners = [0u32; 720];
     let mut trial_owners = [0u32; 720];
     let mut work = [0u32; 1728];
-    let mut places = [0u32; 4608];
     read_numbers(fd, &mut lengths);
-    read_front(fd, &mut cell_vertices, length_at(&lengths, 0));
-    read_front(fd, &mut cell_edges, length_at(&lengths, 0));
-    sized_agrees(
-        fd,
-        case,
-        &lengths,
-        geometry,
-        pool,
-        &cell_vertices,
-        &cell_edges,
-        &mut test_dofs,
-        &mut trial_dofs,
-        &mut test_colours,
-        &mut trial_colours,
-        &mut test_owners,
-        &mut trial_owners,
-        &mut work,
-        &mut places,
-    )
+    read_numbers(fd, room(&mut cell_vertices, &lengths, 0));
+    read_numbers(fd, room(&mut cell_edges, &lengths, 0));
+    let answer = plan(
+        case.sizes,
+        front(&cell_vertices, &lengths, 0),
+        front(&cell_edges, &lengths, 0),
+        case.assembly,
+        room(&mut test_dofs, &lengths, 1),
+        room(&mut trial_dofs, &lengths, 2),
+        room(&mut test_colours, &lengths, 3),
+        room(&mut trial_colours, &lengths, 3),
+        room(&mut test_owners, &lengths, 4),
+        room(&mut trial_owners, &lengths, 5),
+        room(&mut work, &lengths, 6),
+    );
+    match answer {
+        Planned::Refused(number) => number == case.refusal,
+        Planned::Ready(n) => ready_agrees(
+            fd,
+            n,
+            case,
+            &lengths,
+            floats,
+            &test_dofs,
+            &trial_dofs,
+            &test_colours,
+            &trial_colours,
+            &test_owners,
+            &trial_owners,
+            &work,
+        ),
+    }
 }
 
 // Replays n cases and answers how many differ, each of which is named by its number, from 1.
-fn replay_cases(fd: i32, n: u64, geometry: &[f64], pool: &[f64]) -> u64 {
+fn replay_cases(fd: i32, n: u64, floats: &[f64; 912]) -> u64 {
     let mut differ = 0;
     for i in 0..n {
-        if !case_agrees(fd, geometry, pool) {
+        if !case_agrees(fd, floats) {
             io::write_all(STDOUT_FILENO, b"differs: case ");
             io::print_decimal(STDOUT_FILENO, std::num::wrapping_add_u64(i, 1));
             io::write_all(STDOUT_FILENO, b"\n");
@@ -356,12 +148,10 @@ fn replay_cases(fd: i32, n: u64, geometry: &[f64], pool: &[f64]) -> u64 {
 
 // The file: how many cases, geometry, pool, then the cases.
 fn replay_file(fd: i32) {
-    let mut geometry = [0.0; 400];
-    let mut pool = [0.0; 512];
+    let mut floats = [0.0; 912];
     let n = read_word(fd);
-    read_floats(fd, &mut geometry);
-    read_floats(fd, &mut pool);
-    let differ = replay_cases(fd, n, &geometry, &pool);
+    read_floats(fd, &mut floats);
+    let differ = replay_cases(fd, n, &floats);
     if !at_end(fd) {
         io::write_all(STDOUT_FILENO, b"the file has more cases\n");
     }

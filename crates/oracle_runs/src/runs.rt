@@ -1,9 +1,7 @@
 // Whole runs on recorded numbers.
 use crate::cases::Case;
-use crate::cases::length_at;
-use crate::lent::eight;
-use crate::lent::part;
-use crate::lent::place_at;
+use crate::lent::length_at;
+use crate::lent::lent;
 use boundary_assemblers::Added;
 use boundary_assemblers::Looked;
 use boundary_assemblers::PlanNumbers;
@@ -20,94 +18,43 @@ fn after(answer: Added) -> Run {
     }
 }
 
-fn add_distant(
-    run: Run,
+// Whether an entries run writes the recorded entries.
+pub fn entries_agree(
+    fd: i32,
+    n: PlanNumbers,
     case: Case,
     lengths: &[u32; 24],
+    places: &[u32; 4608],
+    floats: &[f64],
     test_dofs: &[u32],
     trial_dofs: &[u32],
     work: &[u32],
-    places: &[u32],
-    geometry: &[f64],
-    pool: &[f64],
-    matrix: &mut [f64],
-) -> Run {
-    let at = eight(run.position);
-    after(run.add_distant(
-        test_dofs,
-        trial_dofs,
-        work,
-        case.test_points,
-        case.trial_points,
-        part(pool, place_at(places, at, 0), length_at(lengths, 12)),
-        part(pool, place_at(places, at, 1), length_at(lengths, 13)),
-        part(pool, place_at(places, at, 2), length_at(lengths, 14)),
-        part(pool, place_at(places, at, 3), length_at(lengths, 15)),
-        part(pool, place_at(places, at, 4), length_at(lengths, 16)),
-        part(geometry, place_at(places, at, 5), length_at(lengths, 17)),
-        part(geometry, place_at(places, at, 6), length_at(lengths, 18)),
-        matrix,
-    ))
-}
-
-fn add_touching(
-    run: Run,
-    case: Case,
-    lengths: &[u32; 24],
-    test_dofs: &[u32],
-    trial_dofs: &[u32],
-    work: &[u32],
-    places: &[u32],
-    geometry: &[f64],
-    pool: &[f64],
-    matrix: &mut [f64],
-) -> Run {
-    let at = eight(run.position);
-    after(run.add_touching(
-        test_dofs,
-        trial_dofs,
-        work,
-        case.points,
-        part(pool, place_at(places, at, 0), length_at(lengths, 19)),
-        part(pool, place_at(places, at, 2), length_at(lengths, 20)),
-        part(pool, place_at(places, at, 3), length_at(lengths, 21)),
-        part(pool, place_at(places, at, 4), length_at(lengths, 22)),
-        part(geometry, place_at(places, at, 5), length_at(lengths, 23)),
-        part(geometry, place_at(places, at, 6), length_at(lengths, 23)),
-        matrix,
-    ))
-}
-
-fn write_entries(
-    run: Run,
-    case: Case,
-    lengths: &[u32; 24],
-    test_dofs: &[u32],
-    trial_dofs: &[u32],
-    work: &[u32],
-    places: &[u32],
-    geometry: &[f64],
-    pool: &[f64],
     rows: &mut [u32],
     columns: &mut [u32],
     values: &mut [f64],
-) -> Run {
-    let at = eight(run.position);
-    after(run.add_entries(
-        test_dofs,
-        trial_dofs,
-        work,
-        case.points,
-        part(pool, place_at(places, at, 0), length_at(lengths, 19)),
-        part(pool, place_at(places, at, 2), length_at(lengths, 20)),
-        part(pool, place_at(places, at, 3), length_at(lengths, 21)),
-        part(pool, place_at(places, at, 4), length_at(lengths, 22)),
-        part(geometry, place_at(places, at, 5), length_at(lengths, 23)),
-        part(geometry, place_at(places, at, 6), length_at(lengths, 23)),
-        rows,
-        columns,
-        values,
-    ))
+) -> bool {
+    let mut run = n.begin_entries();
+    for k in 0..wide(n.touching) {
+        run = after(run.add_entries(
+            test_dofs,
+            trial_dofs,
+            work,
+            case.points,
+            lent(floats, lengths, places, run.position, 0, 19),
+            lent(floats, lengths, places, run.position, 2, 20),
+            lent(floats, lengths, places, run.position, 3, 21),
+            lent(floats, lengths, places, run.position, 4, 22),
+            lent(floats, lengths, places, run.position, 5, 23),
+            lent(floats, lengths, places, run.position, 6, 23),
+            rows,
+            columns,
+            values,
+        ));
+    }
+    let same_rows = same_numbers(fd, rows);
+    let same_columns = same_numbers(fd, columns);
+    let same_values = same_floats(fd, values);
+    same_rows & same_columns & same_values & (wide(run.position) == length_at(lengths, 7) / 8)
 }
 
 // The add that the record asks for.
@@ -115,176 +62,49 @@ fn add_next(
     run: Run,
     case: Case,
     lengths: &[u32; 24],
+    places: &[u32; 4608],
+    floats: &[f64],
     test_dofs: &[u32],
     trial_dofs: &[u32],
     work: &[u32],
-    places: &[u32],
-    geometry: &[f64],
-    pool: &[f64],
     matrix: &mut [f64],
 ) -> Run {
     match run.look(test_dofs, trial_dofs, work) {
         Looked::Refused(r, _) => r,
         Looked::Found(r, record) => {
             if record.pattern == 255 {
-                add_distant(
-                    r,
-                    case,
-                    lengths,
+                after(r.add_distant(
                     test_dofs,
                     trial_dofs,
                     work,
-                    places,
-                    geometry,
-                    pool,
+                    case.test_points,
+                    case.trial_points,
+                    lent(floats, lengths, places, r.position, 0, 12),
+                    lent(floats, lengths, places, r.position, 1, 13),
+                    lent(floats, lengths, places, r.position, 2, 14),
+                    lent(floats, lengths, places, r.position, 3, 15),
+                    lent(floats, lengths, places, r.position, 4, 16),
+                    lent(floats, lengths, places, r.position, 5, 17),
+                    lent(floats, lengths, places, r.position, 6, 18),
                     matrix,
-                )
+                ))
             } else {
-                add_touching(
-                    r,
-                    case,
-                    lengths,
+                after(r.add_touching(
                     test_dofs,
                     trial_dofs,
                     work,
-                    places,
-                    geometry,
-                    pool,
+                    case.points,
+                    lent(floats, lengths, places, r.position, 0, 19),
+                    lent(floats, lengths, places, r.position, 2, 20),
+                    lent(floats, lengths, places, r.position, 3, 21),
+                    lent(floats, lengths, places, r.position, 4, 22),
+                    lent(floats, lengths, places, r.position, 5, 23),
+                    lent(floats, lengths, places, r.position, 6, 23),
                     matrix,
-                )
+                ))
             }
         }
     }
-}
-
-// Whether a run has passed all records, of which there are as many as eights of places.
-fn at_the_end(run: Run, places: &[u32]) -> bool {
-    wide(run.position) == places.len() / 8
-}
-
-// The next `turns` records of an entries run.
-fn write_records(
-    first: Run,
-    turns: usize,
-    case: Case,
-    lengths: &[u32; 24],
-    test_dofs: &[u32],
-    trial_dofs: &[u32],
-    work: &[u32],
-    places: &[u32],
-    geometry: &[f64],
-    pool: &[f64],
-    rows: &mut [u32],
-    columns: &mut [u32],
-    values: &mut [f64],
-) -> Run {
-    let mut run = first;
-    for k in 0..turns {
-        run = write_entries(
-            run,
-            case,
-            lengths,
-            test_dofs,
-            trial_dofs,
-            work,
-            places,
-            geometry,
-            pool,
-            rows,
-            columns,
-            values,
-        );
-    }
-    run
-}
-
-// Whether an entries run writes the recorded entries.
-pub fn entries_agree(
-    fd: i32,
-    n: PlanNumbers,
-    case: Case,
-    lengths: &[u32; 24],
-    geometry: &[f64],
-    pool: &[f64],
-    test_dofs: &[u32],
-    trial_dofs: &[u32],
-    work: &[u32],
-    places: &[u32],
-    rows: &mut [u32],
-    columns: &mut [u32],
-    values: &mut [f64],
-) -> bool {
-    let run = write_records(
-        n.begin_entries(),
-        wide(n.touching),
-        case,
-        lengths,
-        test_dofs,
-        trial_dofs,
-        work,
-        places,
-        geometry,
-        pool,
-        rows,
-        columns,
-        values,
-    );
-    if !at_the_end(run, places) {
-        return false;
-    }
-    if !same_numbers(fd, rows) {
-        return false;
-    }
-    if !same_numbers(fd, columns) {
-        return false;
-    }
-    same_floats(fd, values)
-}
-
-fn float_at(list: &[f64], i: usize) -> f64 {
-    if i < list.len() {
-        return list[i];
-    }
-    0.0
-}
-
-// A matrix that is not zero: the first floats of the pool.
-fn start(pool: &[f64], matrix: &mut [f64]) {
-    for i in 0..matrix.len() {
-        matrix[i] = float_at(pool, i);
-    }
-}
-
-// The next `turns` records of a dense run.
-fn add_records(
-    first: Run,
-    turns: usize,
-    case: Case,
-    lengths: &[u32; 24],
-    test_dofs: &[u32],
-    trial_dofs: &[u32],
-    work: &[u32],
-    places: &[u32],
-    geometry: &[f64],
-    pool: &[f64],
-    matrix: &mut [f64],
-) -> Run {
-    let mut run = first;
-    for k in 0..turns {
-        run = add_next(
-            run,
-            case,
-            lengths,
-            test_dofs,
-            trial_dofs,
-            work,
-            places,
-            geometry,
-            pool,
-            matrix,
-        );
-    }
-    run
 }
 
 // Whether a dense run gives the recorded matrix.
@@ -293,30 +113,28 @@ pub fn matrix_agrees(
     n: PlanNumbers,
     case: Case,
     lengths: &[u32; 24],
-    geometry: &[f64],
-    pool: &[f64],
+    places: &[u32; 4608],
+    floats: &[f64],
     test_dofs: &[u32],
     trial_dofs: &[u32],
     work: &[u32],
-    places: &[u32],
     matrix: &mut [f64],
 ) -> bool {
-    start(pool, matrix);
-    let run = add_records(
-        n.begin(),
-        places.len() / 8,
-        case,
-        lengths,
-        test_dofs,
-        trial_dofs,
-        work,
-        places,
-        geometry,
-        pool,
-        matrix,
-    );
-    if !at_the_end(run, places) {
-        return false;
+    let records = length_at(lengths, 7) / 8;
+    let mut run = n.begin();
+    for k in 0..records {
+        run = add_next(
+            run,
+            case,
+            lengths,
+            places,
+            floats,
+            test_dofs,
+            trial_dofs,
+            work,
+            matrix,
+        );
     }
-    same_floats(fd, matrix)
+    let same = same_floats(fd, matrix);
+    same & (wide(run.position) == records)
 }

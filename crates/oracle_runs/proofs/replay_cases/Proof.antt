@@ -5,10 +5,10 @@ use Rattle.oracle_runs.proofs.replay_cases.Statement.{statement}
 use Rattle.oracle_runs.proofs.replay_cases.Tie as tie
 
 abbrev Inv-loop : tie.InvT-loop
-Inv-loop fd n geometry pool differ₀ i₀ t7 t8 differ i = (i ≤ n) × (n < 18446744073709551616)
+Inv-loop fd n floats differ₀ i₀ t6 t7 differ i = (i ≤ n) × (n < 18446744073709551616)
 
 abbrev μ-loop : tie.MeasureT-loop
-μ-loop fd n geometry pool differ₀ i₀ t7 t8 differ i = n - i
+μ-loop fd n floats differ₀ i₀ t6 t7 differ i = n - i
 
 loop-holds : tie.Need-loop-holds Inv-loop μ-loop
 loop-holds c = search needs
