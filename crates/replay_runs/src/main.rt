@@ -19,39 +19,53 @@ ghost use Prim.Native.Nat.{_≤_};
 
 // ---- lists
 
-// n, or 0 where a list is shorter.
-fn within(n: u32, most: usize) -> usize
-    ensures { λ r. ⌜ r ≤ most ⌝ }
+// The front of a list that has length i of the case; the whole list where it is shorter.
+fn room<'a>(list: &'a mut [u32], lengths: &[u32; 16], i: usize) -> &'a mut [u32]
+    requires { ⌜ i ≤ 15 ⌝ }
 {
-    if wide(n) <= most {
-        return wide(n);
+    let n = wide(lengths[i]);
+    if list.len() < n {
+        return list;
     }
-    0
+    let start = 0;
+    &mut list[start..n]
 }
 
-// The next n numbers.
-fn read_front(fd: i32, list: &mut [u32], n: u32) {
-    let end = within(n, list.len());
-    read_numbers(fd, &mut list[..end]);
+// The same of floats.
+fn float_room<'a>(list: &'a mut [f64], lengths: &[u32; 16], i: usize) -> &'a mut [f64]
+    requires { ⌜ i ≤ 15 ⌝ }
+{
+    let n = wide(lengths[i]);
+    if list.len() < n {
+        return list;
+    }
+    let start = 0;
+    &mut list[start..n]
 }
 
-// The next n floats.
-fn read_front_floats(fd: i32, list: &mut [f64], n: u32) {
-    let end = within(n, list.len());
-    read_floats(fd, &mut list[..end]);
+// The same of the numbers of calls.
+fn call_room<'a>(list: &'a mut [usize], lengths: &[u32; 16], i: usize) -> &'a mut [usize]
+    requires { ⌜ i ≤ 15 ⌝ }
+{
+    let n = wide(lengths[i]);
+    if list.len() < n {
+        return list;
+    }
+    let start = 0;
+    &mut list[start..n]
 }
 
-fn number_at(list: &[u32], i: usize) -> usize {
-    if i < list.len() {
+fn number_at(list: &[u32; 1760], i: usize) -> usize {
+    if i < 1760 {
         return wide(list[i]);
     }
     0
 }
 
-// The next n numbers, as those of calls.
-fn read_calls(fd: i32, calls: &mut [usize], n: u32) {
+// The next numbers, as those of calls.
+fn read_calls(fd: i32, calls: &mut [usize], lengths: &[u32; 16]) {
     let mut numbers = [0u32; 1760];
-    read_front(fd, &mut numbers, n);
+    read_numbers(fd, room(&mut numbers, lengths, 7));
     for i in 0..calls.len() {
         calls[i] = number_at(&numbers, i);
     }
@@ -67,164 +81,6 @@ fn answer_agrees(answer: Replayed, case: Case, position: u32) -> bool {
             (case.refusal == 0) & (run.entries == case.entries) & (run.position == position)
         }
     }
-}
-
-// Plays the calls, and compares with what the file has next.
-fn calls_agree(
-    fd: i32,
-    case: Case,
-    position: u32,
-    cell_vertices: &[u32],
-    cell_edges: &[u32],
-    test_dofs: &mut [u32],
-    trial_dofs: &mut [u32],
-    test_colours: &mut [u32],
-    trial_colours: &mut [u32],
-    test_owners: &mut [u32],
-    trial_owners: &mut [u32],
-    work: &mut [u32],
-    calls: &[usize],
-    pool: &[f64],
-    matrix: &mut [f64],
-    answers: &mut [u32],
-    rows: &mut [u32],
-    columns: &mut [u32],
-    values: &mut [f64],
-) -> bool {
-    let answer = replay(
-        case.sizes,
-        cell_vertices,
-        cell_edges,
-        case.assembly,
-        test_dofs,
-        trial_dofs,
-        test_colours,
-        trial_colours,
-        test_owners,
-        trial_owners,
-        work,
-        case.entries,
-        calls,
-        pool,
-        matrix,
-        rows,
-        columns,
-        values,
-        answers,
-    );
-    let ended = answer_agrees(answer, case, position);
-    let answered = same_numbers(fd, answers);
-    let added = same_floats(fd, matrix);
-    let in_rows = same_numbers(fd, rows);
-    let in_columns = same_numbers(fd, columns);
-    let written = same_floats(fd, values);
-    ended & answered & added & in_rows & in_columns & written
-}
-
-// The same, with planning's lists of the lengths that the case names.
-fn planned_agrees(
-    fd: i32,
-    case: Case,
-    lengths: &[u32; 16],
-    cell_vertices: &[u32],
-    cell_edges: &[u32],
-    test_dofs: &mut [u32],
-    trial_dofs: &mut [u32],
-    test_colours: &mut [u32],
-    trial_colours: &mut [u32],
-    test_owners: &mut [u32],
-    trial_owners: &mut [u32],
-    work: &mut [u32],
-    calls: &[usize],
-    pool: &[f64],
-    matrix: &mut [f64],
-    answers: &mut [u32],
-    rows: &mut [u32],
-    columns: &mut [u32],
-    values: &mut [f64],
-) -> bool {
-    let test_places = within(lengths[1], test_dofs.len());
-    let trial_places = within(lengths[2], trial_dofs.len());
-    let tests = within(lengths[3], test_colours.len());
-    let trials = within(lengths[3], trial_colours.len());
-    let test_records = within(lengths[4], test_owners.len());
-    let trial_records = within(lengths[5], trial_owners.len());
-    let pairs = within(lengths[6], work.len());
-    calls_agree(
-        fd,
-        case,
-        lengths[12],
-        cell_vertices,
-        cell_edges,
-        &mut test_dofs[..test_places],
-        &mut trial_dofs[..trial_places],
-        &mut test_colours[..tests],
-        &mut trial_colours[..trials],
-        &mut test_owners[..test_records],
-        &mut trial_owners[..trial_records],
-        &mut work[..pairs],
-        calls,
-        pool,
-        matrix,
-        answers,
-        rows,
-        columns,
-        values,
-    )
-}
-
-// The same, with the other lists so too.
-fn sized_agrees(
-    fd: i32,
-    case: Case,
-    lengths: &[u32; 16],
-    cell_vertices: &[u32],
-    cell_edges: &[u32],
-    test_dofs: &mut [u32],
-    trial_dofs: &mut [u32],
-    test_colours: &mut [u32],
-    trial_colours: &mut [u32],
-    test_owners: &mut [u32],
-    trial_owners: &mut [u32],
-    work: &mut [u32],
-    calls: &[usize],
-    pool: &[f64],
-    matrix: &mut [f64],
-    answers: &mut [u32],
-    rows: &mut [u32],
-    columns: &mut [u32],
-    values: &mut [f64],
-) -> bool {
-    let corners = within(lengths[0], cell_vertices.len());
-    let sides = within(lengths[0], cell_edges.len());
-    let asked = within(lengths[7], calls.len());
-    let lent = within(lengths[8], pool.len());
-    let size = within(lengths[9], matrix.len());
-    let row_count = within(lengths[10], rows.len());
-    let column_count = within(lengths[10], columns.len());
-    let value_count = within(lengths[10], values.len());
-    let room = within(lengths[11], answers.len());
-    planned_agrees(
-        fd,
-        case,
-        lengths,
-        &cell_vertices[..corners],
-        &cell_edges[..sides],
-        test_dofs,
-        trial_dofs,
-        test_colours,
-        trial_colours,
-        test_owners,
-        trial_owners,
-        work,
-        &calls[..asked],
-        &pool[..lent],
-        &mut matrix[..size],
-        &mut answers[..room],
-        &mut rows[..row_count],
-        &mut columns[..column_count],
-        &mut values[..value_count],
-    )
 }
 
 fn print_count(n: u32, words: &[u8]) {
@@ -272,32 +128,54 @@ fn case_agrees(fd: i32) -> bool {
     let mut columns = [65535u32; 600];
     let mut values = [0.5; 600];
     read_numbers(fd, &mut lengths);
-    read_front(fd, &mut cell_vertices, lengths[0]);
-    read_front(fd, &mut cell_edges, lengths[0]);
-    read_calls(fd, &mut calls, lengths[7]);
-    read_front_floats(fd, &mut pool, lengths[8]);
-    read_front_floats(fd, &mut matrix, lengths[9]);
-    let agrees = sized_agrees(
-        fd,
-        case,
-        &lengths,
-        &cell_vertices,
-        &cell_edges,
-        &mut test_dofs,
-        &mut trial_dofs,
-        &mut test_colours,
-        &mut trial_colours,
-        &mut test_owners,
-        &mut trial_owners,
-        &mut work,
-        &calls,
-        &pool,
-        &mut matrix,
-        &mut answers,
-        &mut rows,
-        &mut columns,
-        &mut values,
+    let cell_vertices = room(&mut cell_vertices, &lengths, 0);
+    let cell_edges = room(&mut cell_edges, &lengths, 0);
+    let test_dofs = room(&mut test_dofs, &lengths, 1);
+    let trial_dofs = room(&mut trial_dofs, &lengths, 2);
+    let test_colours = room(&mut test_colours, &lengths, 3);
+    let trial_colours = room(&mut trial_colours, &lengths, 3);
+    let test_owners = room(&mut test_owners, &lengths, 4);
+    let trial_owners = room(&mut trial_owners, &lengths, 5);
+    let work = room(&mut work, &lengths, 6);
+    let calls = call_room(&mut calls, &lengths, 7);
+    let pool = float_room(&mut pool, &lengths, 8);
+    let matrix = float_room(&mut matrix, &lengths, 9);
+    let answers = room(&mut answers, &lengths, 11);
+    let rows = room(&mut rows, &lengths, 10);
+    let columns = room(&mut columns, &lengths, 10);
+    let values = float_room(&mut values, &lengths, 10);
+    read_numbers(fd, cell_vertices);
+    read_numbers(fd, cell_edges);
+    read_calls(fd, calls, &lengths);
+    read_floats(fd, pool);
+    read_floats(fd, matrix);
+    let answer = replay(
+        case.sizes,
+        cell_vertices,
+        cell_edges,
+        case.assembly,
+        test_dofs,
+        trial_dofs,
+        test_colours,
+        trial_colours,
+        test_owners,
+        trial_owners,
+        work,
+        case.entries,
+        calls,
+        pool,
+        matrix,
+        rows,
+        columns,
+        values,
+        answers,
     );
+    let agrees = answer_agrees(answer, case, lengths[12])
+        & same_numbers(fd, answers)
+        & same_floats(fd, matrix)
+        & same_numbers(fd, rows)
+        & same_numbers(fd, columns)
+        & same_floats(fd, values);
     print_case(case, lengths[7] / 11, lengths[12], agrees);
     agrees
 }

@@ -7,22 +7,22 @@ use Rattle.replay_runs.proofs.read_calls.Statement.{statement}
 use Rattle.replay_runs.proofs.read_calls.Tie as tie
 
 abbrev Inv-loop : tie.InvT-loop
-Inv-loop fd calls₀ n numbers i₀ i-end calls i = (i ≤ i-end) × (length calls ≡ i-end) × (length calls ≡ length calls₀)
+Inv-loop fd calls₀ lengths numbers i₀ i-end calls i = (i ≤ i-end) × (length calls ≡ i-end) × (length calls ≡ length calls₀)
 
 abbrev μ-loop : tie.MeasureT-loop
-μ-loop fd calls₀ n numbers i₀ i-end calls i = i-end - i
+μ-loop fd calls₀ lengths numbers i₀ i-end calls i = i-end - i
 
-slice-aggregate-read-front : tie.Need-slice-aggregate-read-front Inv-loop μ-loop
-slice-aggregate-read-front c = search needs
+slice-aggregate-room : tie.Need-slice-aggregate-room Inv-loop μ-loop
+slice-aggregate-room c = search needs
 
-read-front-requires : tie.Need-read-front-requires Inv-loop μ-loop
-read-front-requires c κs = search needs
+room-requires : tie.Need-room-requires Inv-loop μ-loop
+room-requires c κs = search needs
+
+read-numbers-requires : tie.Need-read-numbers-requires Inv-loop μ-loop
+read-numbers-requires c κs = search needs
 
 loop-holds : tie.Need-loop-holds Inv-loop μ-loop
 loop-holds c = search needs
-
-slice-aggregate-number-at : tie.Need-slice-aggregate-number-at Inv-loop μ-loop
-slice-aggregate-number-at c = search needs
 
 number-at-requires : tie.Need-number-at-requires Inv-loop μ-loop
 number-at-requires c κs = search needs
@@ -54,10 +54,10 @@ read-calls-spec =
     (tie.spec
     Inv-loop
     μ-loop
-    slice-aggregate-read-front
-    read-front-requires
+    slice-aggregate-room
+    room-requires
+    read-numbers-requires
     loop-holds
-    slice-aggregate-number-at
     number-at-requires
     mul-calls
     slice-write-calls
