@@ -8,7 +8,6 @@ use integrands::Term;
 use libc::STDOUT_FILENO;
 use planning::Assembly;
 use planning::plan;
-ghost use Prim.Native.Nat.{_≤_};
 
 // What each place of the lists holds before the call.
 const MARK: u32 = 77;
@@ -64,8 +63,7 @@ fn print_number(x: u32) {
 }
 
 fn print_after_blank(x: u32) {
-    print(b" ");
-    print_number(x);
+    print_named(b" ", x);
 }
 
 fn print_all(list: &[u32]) {
@@ -98,21 +96,20 @@ fn print_records(list: &[u32]) {
     }
 }
 
+// A text, and a number after it.
+fn print_named(text: &[u8], x: u32) {
+    print(text);
+    print_number(x);
+}
+
 fn print_numbers(n: PlanNumbers) {
-    print(b"C ");
-    print_number(n.cells);
-    print(b" V ");
-    print_number(n.vertices);
-    print(b" E ");
-    print_number(n.edges);
-    print(b" S ");
-    print_number(n.touching);
-    print(b" N ");
-    print_number(n.distant);
-    print(b" rows ");
-    print_number(n.rows);
-    print(b" columns ");
-    print_number(n.columns);
+    print_named(b": ready\nC ", n.cells);
+    print_named(b" V ", n.vertices);
+    print_named(b" E ", n.edges);
+    print_named(b" S ", n.touching);
+    print_named(b" N ", n.distant);
+    print_named(b" rows ", n.rows);
+    print_named(b" columns ", n.columns);
     print(b"\n");
 }
 
@@ -124,36 +121,17 @@ fn is_marked(list: &[u32]) -> bool {
     ok
 }
 
-// A length, at most that of the arrays that the lists are cut from.
-fn within(n: usize) -> usize
-    ensures { λ r. ⌜ r ≤ 64 ⌝ }
-{
-    if n <= 64 { n } else { 64 }
-}
-
-fn print_plan(
-    n: PlanNumbers,
-    test_dofs: &[u32],
-    trial_dofs: &[u32],
-    test_colours: &[u32],
-    trial_colours: &[u32],
-    test_owners: &[u32],
-    trial_owners: &[u32],
-    work: &[u32],
-) {
-    print_numbers(n);
-    print_list(b"test dofs", test_dofs);
-    print_list(b"trial dofs", trial_dofs);
-    print_list(b"test colours", test_colours);
-    print_list(b"trial colours", trial_colours);
-    print_list(b"test owners", test_owners);
-    print_list(b"trial owners", trial_owners);
-    print_records(work);
+// The first n numbers of a list that is written; all of them where there are fewer.
+fn room(list: &mut [u32], n: usize) -> &mut [u32] {
+    if list.len() < n {
+        return list;
+    }
+    let start = 0;
+    &mut list[start..n]
 }
 
 fn print_refusal(number: u32, untouched: bool) {
-    print(b": refused ");
-    print_number(number);
+    print_named(b": refused ", number);
     if untouched {
         print(b", lists untouched\n");
     } else {
@@ -174,17 +152,14 @@ fn print_answer(
 ) {
     match answer {
         Planned::Ready(n) => {
-            print(b": ready\n");
-            print_plan(
-                n,
-                test_dofs,
-                trial_dofs,
-                test_colours,
-                trial_colours,
-                test_owners,
-                trial_owners,
-                work,
-            );
+            print_numbers(n);
+            print_list(b"test dofs", test_dofs);
+            print_list(b"trial dofs", trial_dofs);
+            print_list(b"test colours", test_colours);
+            print_list(b"trial colours", trial_colours);
+            print_list(b"test owners", test_owners);
+            print_list(b"trial owners", trial_owners);
+            print_records(work);
         }
         Planned::Refused(number) => {
             let untouched = is_marked(test_dofs)
@@ -199,19 +174,8 @@ fn print_answer(
     }
 }
 
-// Plans, and prints the answer.
-fn run(
-    x: Case,
-    cell_vertices: &[u32],
-    cell_edges: &[u32],
-    test_dofs: &mut [u32],
-    trial_dofs: &mut [u32],
-    test_colours: &mut [u32],
-    trial_colours: &mut [u32],
-    test_owners: &mut [u32],
-    trial_owners: &mut [u32],
-    work: &mut [u32],
-) {
+// The name, and what plan answers and leaves in the lists.
+pub fn show(name: &[u8], x: Case, cell_vertices: &[u32], cell_edges: &[u32]) {
     let test = x.test;
     let trial = x.trial;
     let integrand = x.integrand;
@@ -226,6 +190,21 @@ fn run(
         batch: x.batch,
         integrand: integrand,
     };
+    let mut test_dofs = [MARK; 64];
+    let mut trial_dofs = [MARK; 64];
+    let mut test_colours = [MARK; 64];
+    let mut trial_colours = [MARK; 64];
+    let mut test_owners = [MARK; 64];
+    let mut trial_owners = [MARK; 64];
+    let mut work = [MARK; 64];
+    let test_dofs = room(&mut test_dofs, x.test_dofs);
+    let trial_dofs = room(&mut trial_dofs, x.trial_dofs);
+    let test_colours = room(&mut test_colours, x.test_colours);
+    let trial_colours = room(&mut trial_colours, x.trial_colours);
+    let test_owners = room(&mut test_owners, x.test_owners);
+    let trial_owners = room(&mut trial_owners, x.trial_owners);
+    let work = room(&mut work, x.work);
+    print(name);
     let answer = plan(
         sizes,
         cell_vertices,
@@ -248,36 +227,5 @@ fn run(
         test_owners,
         trial_owners,
         work,
-    );
-}
-
-// The name, and what run prints.
-pub fn show(name: &[u8], x: Case, cell_vertices: &[u32], cell_edges: &[u32]) {
-    let a = within(x.test_dofs);
-    let b = within(x.trial_dofs);
-    let c = within(x.test_colours);
-    let d = within(x.trial_colours);
-    let e = within(x.test_owners);
-    let f = within(x.trial_owners);
-    let g = within(x.work);
-    let mut test_dofs = [MARK; 64];
-    let mut trial_dofs = [MARK; 64];
-    let mut test_colours = [MARK; 64];
-    let mut trial_colours = [MARK; 64];
-    let mut test_owners = [MARK; 64];
-    let mut trial_owners = [MARK; 64];
-    let mut work = [MARK; 64];
-    print(name);
-    run(
-        x,
-        cell_vertices,
-        cell_edges,
-        &mut test_dofs[..a],
-        &mut trial_dofs[..b],
-        &mut test_colours[..c],
-        &mut trial_colours[..d],
-        &mut test_owners[..e],
-        &mut trial_owners[..f],
-        &mut work[..g],
     );
 }
