@@ -20,12 +20,11 @@ ghost use Prim.Native.Nat.{_*_, _≤_, min};
 ghost use lib.ListN.{length, take};
 ghost use Rattle.lists.specs.Writes.{numbers, Wrote};
 ghost use Rattle.grid.specs.Mesh.{meshOf};
-ghost use Rattle.plans.specs.Planning.{listsOf};
 ghost use Rattle.planning.specs.Arguments.{planningWith};
 ghost use Rattle.function.specs.Elements.{mostDim, dim};
 ghost use Rattle.job.specs.Job.{mostWorklistCells};
 ghost use Rattle.worklist_text.specs.Text.{numbersPlanning, worklist, refusedLine};
-ghost use Rattle.worklist_text.specs.PlannedText.{plannedText, rightText, mostText, Arrays, Printed};
+ghost use Rattle.worklist_text.specs.PlannedText.{rightText, mostText, Printed};
 
 // The most cells of a job, places of a DOF list, and pairs of cells.
 const CELLS: usize = MOST_WORKLIST_CELLS as usize;
@@ -36,45 +35,6 @@ const PAIRS: usize = CELLS * CELLS;
 
 // The most bytes of the text: a line of at most 12 for each pair.
 pub const MOST_TEXT: usize = 12 * PAIRS;
-
-// Plans, and writes the work list's lines, or what is refused.
-fn put_planned(
-    sizes: Sizes,
-    cell_vertices: &[u32],
-    cell_edges: &[u32],
-    assembly: Assembly,
-    test_dofs: &mut [u32],
-    trial_dofs: &mut [u32],
-    test_colours: &mut [u32],
-    trial_colours: &mut [u32],
-    test_owners: &mut [u32],
-    trial_owners: &mut [u32],
-    work: &mut [u32],
-    text: &mut [u8],
-) -> usize
-    requires { ⌜ (sizes .cells ≤ mostWorklistCells) × (mostText ≤ length (now text)) ⌝ }
-    ensures { λ r. ⌜ Wrote numbers (now (text .entry)) (now (text .exit)) 0 r
-        (plannedText (planningWith (meshOf sizes (now («cell_vertices» .entry)) (now («cell_edges» .entry))) assembly)
-        (listsOf (now («test_dofs» .entry)) (now («trial_dofs» .entry)) (now («test_colours» .entry)) (now («trial_colours» .entry)) (now («test_owners» .entry)) (now («trial_owners» .entry)) (now (work .entry)))) ⌝ }
-{
-    let planned = plan(
-        sizes,
-        cell_vertices,
-        cell_edges,
-        assembly,
-        test_dofs,
-        trial_dofs,
-        test_colours,
-        trial_colours,
-        test_owners,
-        trial_owners,
-        work,
-    );
-    match planned {
-        Planned::Ready(_) => put_lines(work, text, 0),
-        Planned::Refused(n) => put_refused(text, 0, n),
-    }
-}
 
 // A dim for the length of a list: one above the most is refused before the lists' lengths are read.
 fn short_dim(element: Element) -> usize
@@ -101,51 +61,16 @@ fn pair_count(cells: u32) -> usize
     c * c
 }
 
-// The same with lists of the right lengths, in arrays that are long enough for the most cells.
-fn put_sized(
-    sizes: Sizes,
-    cell_vertices: &[u32],
-    cell_edges: &[u32],
-    assembly: Assembly,
-    test_dofs: &mut [u32],
-    trial_dofs: &mut [u32],
-    test_colours: &mut [u32],
-    trial_colours: &mut [u32],
-    test_owners: &mut [u32],
-    trial_owners: &mut [u32],
-    work: &mut [u32],
-    text: &mut [u8],
-) -> usize
-    requires { ⌜ (sizes .cells ≤ mostWorklistCells) × (mostText ≤ length (now text)) ⌝ }
-    requires { ⌜ Arrays (now «test_dofs») (now «trial_dofs») (now «test_colours») (now «trial_colours») (now «test_owners») (now «trial_owners») (now work) ⌝ }
-    ensures { λ r. ⌜ Wrote numbers (now (text .entry)) (now (text .exit)) 0 r
-        (rightText (planningWith (meshOf sizes (now («cell_vertices» .entry)) (now («cell_edges» .entry))) assembly)) ⌝ }
+// The first n numbers of a list.
+fn room(list: &mut [u32], n: usize) -> &mut [u32]
+    requires { ⌜ n ≤ length (now list) ⌝ }
+    ensures { λ r. ⌜ length (now r) ≡ n ⌝ }
 {
-    let test = assembly.test;
-    let trial = assembly.trial;
-    let c = wide(sizes.cells);
-    let rows = dof_places(sizes.cells, test);
-    let columns = dof_places(sizes.cells, trial);
-    let test_places = 3 * rows;
-    let trial_places = 3 * columns;
-    let places = WIDTH * pair_count(sizes.cells);
-    put_planned(
-        sizes,
-        cell_vertices,
-        cell_edges,
-        assembly,
-        &mut test_dofs[..rows],
-        &mut trial_dofs[..columns],
-        &mut test_colours[..c],
-        &mut trial_colours[..c],
-        &mut test_owners[..test_places],
-        &mut trial_owners[..trial_places],
-        &mut work[..places],
-        text,
-    )
+    let start = 0;
+    &mut list[start..n]
 }
 
-// The same with arrays of its own.
+// Plans with lists of the right lengths, and writes the work list's lines, or what is refused.
 fn put_mesh(
     sizes: Sizes,
     cell_vertices: &[u32],
@@ -157,6 +82,12 @@ fn put_mesh(
     ensures { λ r. ⌜ Wrote numbers (now (text .entry)) (now (text .exit)) 0 r
         (rightText (planningWith (meshOf sizes (now («cell_vertices» .entry)) (now («cell_edges» .entry))) assembly)) ⌝ }
 {
+    let test = assembly.test;
+    let trial = assembly.trial;
+    let c = wide(sizes.cells);
+    let rows = dof_places(sizes.cells, test);
+    let columns = dof_places(sizes.cells, trial);
+    let pairs = pair_count(sizes.cells);
     let mut test_dofs = [0u32; DOFS];
     let mut trial_dofs = [0u32; DOFS];
     let mut test_colours = [0u32; CELLS];
@@ -164,20 +95,30 @@ fn put_mesh(
     let mut test_owners = [0u32; 3 * DOFS];
     let mut trial_owners = [0u32; 3 * DOFS];
     let mut work = [0u32; WIDTH * PAIRS];
-    put_sized(
+    let test_dofs = room(&mut test_dofs, rows);
+    let trial_dofs = room(&mut trial_dofs, columns);
+    let test_colours = room(&mut test_colours, c);
+    let trial_colours = room(&mut trial_colours, c);
+    let test_owners = room(&mut test_owners, 3 * rows);
+    let trial_owners = room(&mut trial_owners, 3 * columns);
+    let work = room(&mut work, WIDTH * pairs);
+    let planned = plan(
         sizes,
         cell_vertices,
         cell_edges,
         assembly,
-        &mut test_dofs,
-        &mut trial_dofs,
-        &mut test_colours,
-        &mut trial_colours,
-        &mut test_owners,
-        &mut trial_owners,
-        &mut work,
-        text,
-    )
+        test_dofs,
+        trial_dofs,
+        test_colours,
+        trial_colours,
+        test_owners,
+        trial_owners,
+        work,
+    );
+    match planned {
+        Planned::Ready(_) => put_lines(work, text, 0),
+        Planned::Refused(n) => put_refused(text, 0, n),
+    }
 }
 
 // The same for the numbers of a job with one bare term of kind 0, whose vertices and edges stand at the front of these lists.
