@@ -15,7 +15,7 @@ use Rattle.lists.specs.Fold.{over, over-snoc, listOf}
 use Rattle.lists.specs.Range.{flatMap-append, flatMap-one}
 use Rattle.lists.specs.Stores.{sets-append, sets-front}
 use Rattle.lent_numbers.specs.Lent.{touching, distant}
-use Rattle.plans.specs.Planning.{Planning, Lists, PlanNumbers, Planned, ready, refused as not-planned, plan, planNumbers, planAnswer, planRefusal, planLists, unlessRefused}
+use Rattle.plans.specs.Planning.{Planning, Lists, PlanNumbers, ready, refused as not-planned, plan, planNumbers, planAnswer, planRefusal, planLists, unlessRefused}
 use Rattle.plans.specs.Accepted.{ready-is}
 use Rattle.runs.specs.Runs.{Run, Plan, EntryLists, Reply, Answer, found, accepted, refused, begun, look, addDistant, addTouching, addEntries, distantMatrix, touchingMatrix, entriesWritten}
 use Rattle.runs.specs.Calls.{Call, looks, addsDistant, addsTouching, addsEntries, Progress, replyTo, matrixAfter, listsAfter, call, callAll}
@@ -23,7 +23,7 @@ use Rattle.runs.specs.Machine.{machineOf, machineRun}
 use Rattle.runs.specs.Beside.{embed}
 use Rattle.runs.specs.Listed.{planIn, machine-beside}
 use Rattle.replay.specs.Encoding.{listIn, distantIn, touchingIn, callOf, callAt, callsOf, callCount, answerNumbers, putAnswers}
-use Rattle.replay.specs.Replay.{Outcome, played, refused as not-played, outcome, ended, replayed, replayedMatrix, replayedLists, replayedAnswers}
+use Rattle.replay.specs.Replay.{Outcome, played, refused as not-played, outcome, replayed, replayedMatrix, replayedLists, replayedAnswers}
 
 -- ---- calls and answers, one more
 

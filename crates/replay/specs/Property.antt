@@ -12,7 +12,7 @@ use Rattle.runs.specs.Beside.{embed}
 use Rattle.runs.specs.ThirdProperty.{ThirdProperty, property}
 use Rattle.runs.specs.EntriesProperty.{EntriesProperty, property as entries-of}
 use Rattle.replay.specs.Encoding.{putAnswers}
-use Rattle.replay.specs.Replay.{Outcome, played, outcome, ended, replayed, replayedMatrix, replayedLists, replayedAnswers}
+use Rattle.replay.specs.Replay.{played, outcome, ended, replayed, replayedMatrix, replayedLists, replayedAnswers}
 
 module _ (x : Planning) (l : Lists) (n : PlanNumbers) (e : plan x l ≡ ready n) (calls : List Call) (M : List Float) (lists : EntryLists) where
   -- replay hands back the run of q, and leaves its matrix, its entry lists and its answers

@@ -7,11 +7,11 @@ use mathlib.Core.List.{List, [], _∷_, _++_}
 use lib.Ieee.{Float}
 use Rattle.lent_numbers.specs.Lent.{Touching, Distant}
 use Rattle.lists.specs.Bool.{_and_, every-fails}
-use Rattle.lists.specs.Refusals.{Check, check, refusal, refusal-fails}
+use Rattle.lists.specs.Refusals.{Check, refusal, refusal-fails}
 use Rattle.grid.specs.Mesh.{Mesh}
 use Rattle.work_records.specs.declared.WorkRecord.{WorkRecord}
 use Rattle.plans.specs.Planning.{planningOf, planNumbers}
-use Rattle.runs.specs.Runs.{Run, Plan, EntryLists, Reply, Answer, found, accepted, answered, reply, begin, beginEntries, rangesRight, placesRight, planRight, stateChecks, lookRefusal, advance, distantRefusal, touchingRefusal, entriesRefusal}
+use Rattle.runs.specs.Runs.{Run, Plan, EntryLists, Reply, found, accepted, reply, begin, beginEntries, rangesRight, placesRight, planRight, stateChecks, lookRefusal, advance, distantRefusal, touchingRefusal, entriesRefusal}
 use Rattle.seivalto.specs.declared.CElement.{CElement}
 use Rattle.seivalto.specs.declared.CIntegrand.{CIntegrand}
 use Rattle.seivalto.specs.declared.CNumbers.{CNumbers}

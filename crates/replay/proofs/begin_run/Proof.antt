@@ -1,5 +1,4 @@
 -- `replay::begin_run` meets its contract. Assumes nothing.
-use Rattle.runs.specs.Runs.{begun}
 use borrow.Author.Needs.{needs}
 use Rattle.replay.proofs.begin_run.Statement.{statement}
 use Rattle.replay.proofs.begin_run.Tie as tie

@@ -1,6 +1,5 @@
 -- `worklist_text::text::put_lines` meets its contract. The invariant of its loop: the lines of the first k records are written. Assumes nothing.
 use Prim.Native.Nat.{_-_, _/_}
-use native.Mathlib.Omega.{arith}
 use lib.ListN.{length}
 use Rattle.lists.specs.Writes.{numbers, Turns, turns-start, turns-room, turns-turn, turns-done, wrote-length}
 use Rattle.work_records.specs.Records.{width, recordAt}
