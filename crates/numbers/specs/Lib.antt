@@ -1,3 +1,4 @@
--- Ranges and bounds of whole numbers, with their laws (`Ranges`), and Rust's f64 (`Floats`).
+-- Ranges and bounds of whole numbers, with their laws (`Ranges`), and Rust's f64 (`Floats`) with a law of its product (`One`).
 pub mod Ranges
 pub mod Floats
+pub mod One
