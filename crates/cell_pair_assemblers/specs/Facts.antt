@@ -1,52 +1,35 @@
 -- Laws on what is lent: what a point reads, and the sums of the points passed. Assumes nothing.
 use Prim.Native.Nat.{ℕ, _+_, _*_, _<_, _≤_}
 use native.Mathlib.Omega.{arith}
-use mathlib.Core.Bool.{true, _&&_}
-use mathlib.Core.Path.{_≡_, refl, sym, subst, _∙_, ap}
+use mathlib.Core.Bool.{true}
+use mathlib.Core.Path.{_≡_, refl, sym, _∙_, ap, ap₂}
 use mathlib.Core.List.{List}
 use lib.ListN.{length, replicate, length-replicate, getD-replicate}
-use lib.Dec.{eqb}
 use lib.Ieee.{Float, nan}
-use borrow.Author.Tests.{eqb-true}
-use Rattle.lists.specs.Bool.{_and_, and-left, and-right}
 use Rattle.lists.specs.Fold.{upto, upto-none, upto-more}
 use Rattle.lists.specs.Places.{in-row, in-rectangle}
+use Rattle.numbers.specs.Floats.{0·0, 1·0, _⊕_, _⊗_, _!_}
+use Rattle.numbers.specs.One.{product-one}
 use Rattle.function.specs.Elements.{mostDim}
 use Rattle.table.specs.Rows.{tableRow}
 use Rattle.integrands.specs.declared.Integrand.{Integrand}
 use Rattle.integrands.specs.declared.Geometry.{Geometry}
-use Rattle.integrands.specs.declared.Side.{Side}
-use Rattle.integrands.specs.declared.Term.{Term}
-use Rattle.numbers.specs.Floats.{0·0, _⊕_, _⊗_, _!_}
-use Rattle.integrands.specs.Terms.{kindOf, kernelWidth, tableRows}
-use Rattle.integrands.specs.ValueFacts.{plain-first, term-from}
-use Rattle.integrands.specs.Parts.{plainKind, coefficient, factored, fromSides, TestSide, TrialSide}
-use Rattle.integrands.specs.Values.{geometryAt, termValue, pointValue}
-use Rattle.integrands.specs.Columns.{Added, Held, Table, rows-some, hundred-place, first-reads}
-use Rattle.cell_pair_assemblers.specs.declared.Weight.{Weight}
-use Rattle.cell_pair_assemblers.specs.declared.Weight.the-variants.{Once, Twice}
-use Rattle.lent_numbers.specs.Lent.{mostPointPairs, Touching, Distant, TouchingFits, DistantFits}
+use Rattle.integrands.specs.declared.PointValue.{PointValue}
+use Rattle.integrands.specs.Terms.{kindOf, integrandRight, kernelWidth, tableRows}
+use Rattle.integrands.specs.ValueFacts.{one-outer-value, one-curls-value}
+use Rattle.integrands.specs.Parts.{Point, factored}
+use Rattle.integrands.specs.Values.{geometryAt, curlCurl, pointValue}
+use Rattle.integrands.specs.Columns.{Held, Added, Table, held-added, rows-some, hundred-place}
+use Rattle.lent_numbers.specs.Lent.{mostDistantPoints, mostPointPairs, Touching, Distant, TouchingFits, DistantFits}
 use Rattle.lent_numbers.specs.Sizes.{touching-sizes, distant-sizes, small-pairs}
 use Rattle.lent_numbers.specs.Entries.{touchingValue, touchingSummand, touchingEntry, distantValue, distantSummand, distantEntry}
 
--- value·w, or value·w·v
-unfoldable pub weighed : Weight → Float → Float
-weighed (Once w) x = x ⊗ w
-weighed (Twice w v) x = x ⊗ w ⊗ v
-
--- the value of a term, with its kind as the code has it
-pub term-as : (term : Term) (k t r : ℕ → Float) (test trial : Geometry) {kind : ℕ} {c a0 a1 a2 : Float} {b : Side} → kind ≡ kindOf term
-    → c ≡ coefficient (kindOf term) k test trial → TestSide kind c test t a0 a1 a2 → TrialSide kind trial r b
-    → factored term (fromSides (kindOf term) c a0 a1 a2 b (test .jdet) (trial .jdet)) ≡ termValue term k t r test trial
-term-as term k t r test trial {kind} {c} {a0} {a1} {a2} {b} e ec a h =
-    term-from term k t r test trial ec (subst (λ (n : ℕ). TestSide n c test t a0 a1 a2) e a) (subst (λ (n : ℕ). TrialSide n trial r b) e h)
-
-pub coefficient-as : (k : ℕ → Float) (test trial : Geometry) {n kind : ℕ} {c : Float} → n ≡ kind → c ≡ coefficient n k test trial → c ≡ coefficient kind k test trial
-coefficient-as k test trial e h = h ∙ ap (λ (x : ℕ). coefficient x k test trial) e
-
--- the same sums, by another name
-pub added-as : {m n : ℕ} {xs ys : List Float} {u v : ℕ → ℕ → Float} → Added m n xs ys u → ((i j : ℕ) → u i j ≡ v i j) → Added m n xs ys v
-added-as {m} {n} {xs} {ys} h e = record { size = h .size; at = λ i j l b. h .at i j l b ∙ ap (λ (x : Float). xs ! (i + m * j) ⊕ x) (e i j); rest = h .rest }
+-- one term alone, with its kernel width and table rows as the code has them
+pub record Alone (f : Integrand) (K D : ℕ) : Type 0 where
+  pub one : f .terms ≡ 1
+  pub width : K ≡ kernelWidth f
+  pub rows : D ≡ tableRows f
+  pub right : integrandRight f ≡ true
 
 -- ---- what a point reads
 
@@ -104,6 +87,60 @@ distant-pair {f} {m} {n} {a} h t r lt lr =
     let most = small-pairs (a .testPoints) (a .trialPoints) (h .testCount) (h .trialCount) in
     (omega (arith, inside, most), omega (arith, inside, most))
 
+-- what test point t and trial point r read
+pub record Reaches (K D T R t r m n : ℕ) (ts rs ks ws gs : List Float) : Type 0 where
+  pub testTable : Table D T t m ts
+  pub trialTable : Table D R r n rs
+  pub kernel : K * (t + T * r) + K ≤ length ks
+  pub column : T * r ≤ mostPointPairs
+  pub place : t + T * r ≤ mostPointPairs
+  pub few : r < mostDistantPoints
+  pub trialWeight : r < length ws
+  pub trialGeometry : 10 * r + 10 ≤ length gs
+
+pub reaches : {f : Integrand} {K D m n : ℕ} {a : Distant} → Alone f K D → DistantFits f m n a → (t r : ℕ) → t < a .testPoints → r < a .trialPoints
+    → Reaches K D (a .testPoints) (a .trialPoints) t r m n (a .testTable) (a .trialTable) (a .kernel) (a .trialWeights) (a .trialGeometry)
+reaches {f} {K} {D} {m} {n} {a} alone h t r lt lr =
+    record {
+      testTable = rw (alone .rows) (distant-test-table h t lt);
+      trialTable = rw (alone .rows) (distant-trial-table h r lr);
+      kernel = rw (alone .width) (distant-kernel h t r lt lr);
+      column = distant-pair h t r lt lr .0;
+      place = omega (arith, distant-pair h t r lt lr .1);
+      few = omega (arith, lr, h .trialCount);
+      trialWeight = distant-trial-geometry h r lr .1;
+      trialGeometry = distant-trial-geometry h r lr .0;
+    }
+
+-- ---- what a point adds, for one term
+
+-- value·(trial weight·trial jdet)·v, at test point t and trial point r
+abbrev pub summandAt : Integrand → ℕ → ℕ → ℕ → ℕ → ℕ → ℕ → Geometry → Float → List Float → List Float → List Float → List Float → List Float → ℕ → ℕ → Float
+summandAt f K D T R t r test v testTable trialTable kernel trialWeights trialGeometry i j =
+    pointValue f (λ (d : ℕ). kernel ! (d + K * (t + T * r))) (tableRow testTable D T t i) (tableRow trialTable D R r j) test (geometryAt trialGeometry r)
+    ⊗ (trialWeights ! r ⊗ geometryAt trialGeometry r .jdet)
+    ⊗ v
+
+module _ (f : Integrand) (k t r : ℕ → Float) (test trial : Geometry) {K D kind : ℕ} {x : PointValue} (alone : Alone f K D) (is : kind ≡ kindOf (f .first)) (point : Point kind k test trial x) where
+  at-first : Point (kindOf (f .first)) k test trial x
+  at-first = rw is at point
+
+  pub outer-value : (D ≡ 3 → ⊥) → factored (f .first) (x .c ⊗ t 0 ⊗ r 0) ≡ pointValue f k t r test trial
+  outer-value h = one-outer-value f k t r test trial (alone .one) at-first (λ e. h (alone .rows ∙ e))
+
+  -- with the geometries by another name
+  pub curls-value : {s g : Geometry} → test ≡ s → trial ≡ g → D ≡ 3 → factored (f .first) (curlCurl (λ (d : ℕ). x .c) t r s g) ≡ pointValue f k t r test trial
+  curls-value es e h =
+      ap (factored (f .first)) (ap₂ (curlCurl (λ (d : ℕ). x .c) t r) (sym es) (sym e)) ∙ one-curls-value f k t r test trial (alone .one) at-first (sym (alone .rows) ∙ h)
+
+  pub outer-summand : {g : Geometry} (y v : Float) → trial ≡ g → (D ≡ 3 → ⊥)
+      → factored (f .first) (x .c ⊗ t 0 ⊗ r 0) ⊗ (y ⊗ trial .jdet) ⊗ v ≡ pointValue f k t r test g ⊗ (y ⊗ g .jdet) ⊗ v
+  outer-summand y v e h = ap (λ (z : Float). z ⊗ (y ⊗ trial .jdet) ⊗ v) (outer-value h) ∙ ap (λ (g : Geometry). pointValue f k t r test g ⊗ (y ⊗ g .jdet) ⊗ v) e
+
+  pub curls-summand : {s g : Geometry} (y v : Float) → test ≡ s → trial ≡ g → D ≡ 3
+      → factored (f .first) (curlCurl (λ (d : ℕ). x .c) t r s g) ⊗ (y ⊗ trial .jdet) ⊗ v ≡ pointValue f k t r test g ⊗ (y ⊗ g .jdet) ⊗ v
+  curls-summand y v es e h = ap (λ (z : Float). z ⊗ (y ⊗ trial .jdet) ⊗ v) (curls-value es e h) ∙ ap (λ (g : Geometry). pointValue f k t r test g ⊗ (y ⊗ g .jdet) ⊗ v) e
+
 -- ---- the sums of the points passed
 
 module _ (f : Integrand) where
@@ -132,6 +169,13 @@ module _ (f : Integrand) where
   touching-more a i j q K D g h {x} eg eh ek ed e =
       rw (e, eg, eh, ek, ed) (sym (upto-more (λ (p : ℕ) (sum : Float). sum ⊕ touchingSummand f a i j p) q 0·0))
 
+  -- weighed once: a product times 1 is that product
+  pub touching-once : (a : Touching) (i j q K D : ℕ) (g h : Geometry) {x : Float} → g ≡ geometryAt (a .testGeometry) q → h ≡ geometryAt (a .trialGeometry) q → Alone f K D
+      → x ≡ pointValue f (λ d. a .kernel ! (d + K * q)) (tableRow (a .testTable) D (a .points) q i) (tableRow (a .trialTable) D (a .points) q j) g h
+      → touchingSum a i j q ⊕ x ⊗ (a .weights ! q ⊗ (g .jdet ⊗ h .jdet)) ⊗ 1·0 ≡ touchingSum a i j (q + 1)
+  touching-once a i j q K D g h {x} eg eh alone e =
+      ap (λ (y : Float). touchingSum a i j q ⊕ y) (product-one x (a .weights ! q ⊗ (g .jdet ⊗ h .jdet))) ∙ touching-more a i j q K D g h eg eh (alone .width) (alone .rows) e
+
   pub touching-end : (a : Touching) (i j : ℕ) → touchingSum a i j (a .points) ≡ touchingEntry f a i j
   unfolding touchingSum touchingEntry
   touching-end a i j = refl
@@ -151,6 +195,14 @@ module _ (f : Integrand) where
   unfolding distantSum distantSummand distantValue
   distant-more a i j t r K D g h {x} {v} eg eh ek ed ev e =
       rw (e, ev, eg, eh, ek, ed) (sym (upto-more (λ (r : ℕ) (s : Float). s ⊕ distantSummand f a i j t r) r (distantRows a i j t)))
+
+  -- for one term: what test point t and trial point r add
+  pub distant-added : (a : Distant) {m n K D : ℕ} (t r : ℕ) {g : Geometry} {v : Float} {xs ys : List Float} → Alone f K D → g ≡ geometryAt (a .testGeometry) t → v ≡ a .testWeights ! t ⊗ g .jdet
+      → Held m n xs (λ i j. distantSum a i j t r)
+      → Added m n xs ys (λ i j. summandAt f K D (a .testPoints) (a .trialPoints) t r g v (a .testTable) (a .trialTable) (a .kernel) (a .trialWeights) (a .trialGeometry) i j)
+      → Held m n ys (λ i j. distantSum a i j t (r + 1))
+  distant-added a {m} {n} {K} {D} t r {g} alone eg ev held added =
+      held-added _ held added (λ i j l b. distant-more a i j t r K D g (geometryAt (a .trialGeometry) r) eg refl (alone .width) (alone .rows) ev refl)
 
   pub distant-row-end : (a : Distant) (i j t : ℕ) → distantSum a i j t (a .trialPoints) ≡ distantRows a i j (t + 1)
   unfolding distantSum distantRows
@@ -174,21 +226,13 @@ touching-begin f a hm hn = zeros (λ i j. touchingSum f a i j 0) hm hn (touching
 pub distant-begin : (f : Integrand) {m n : ℕ} (a : Distant) → m ≤ mostDim → n ≤ mostDim → Held m n (replicate 100 0·0) (λ i j. distantRows f a i j 0)
 distant-begin f a hm hn = zeros (λ i j. distantRows f a i j 0) hm hn (distant-start f a)
 
--- what one term other than curl-curl reads of the kernel values
-pub plain-reads : (f : Integrand) (kind at : ℕ) (kernel : List Float) → kind ≡ plainKind f → (kind ≡ 3 → ⊥) → at + kernelWidth f ≤ length kernel
-    → (at < length kernel) × (kind ≡ 1 → at + 4 ≤ length kernel) × (kind ≡ 2 → at + 4 ≤ length kernel)
-plain-reads f kind at kernel e h lent =
-    let first : kind ≡ kindOf (f .first) = e ∙ plain-first f (λ q. h (e ∙ q)) .1 in
-    let reads = first-reads f {kernel = kernel} lent in
-    (reads .first, λ q. reads .double (sym first ∙ q), λ q. reads .adjoint (sym first ∙ q))
+-- ---- dims by their values
 
--- three basis functions on either side
-pub both-three : (a b : ℕ) → (eqb a 3 && eqb b 3) ≡ true → (a ≡ 3) × (b ≡ 3)
-unfolding _and_
-both-three a b e = (eqb-true a 3 (and-left (eqb a 3) (eqb b 3) e), eqb-true b 3 (and-right (eqb a 3) (eqb b 3) e))
+pub held-from : {d e m n : ℕ} {xs : List Float} {v : ℕ → ℕ → Float} → (m ≡ d) × (n ≡ e) → Held m n xs v → Held d e xs v
+held-from q h = rw (q .0, q .1) at h
 
-pub added-three : {m n : ℕ} {xs ys : List Float} {u : ℕ → ℕ → Float} → m ≡ 3 → n ≡ 3 → Added 3 3 xs ys u → Added m n xs ys u
-added-three em en h = rw (em, en) h
+pub held-at : {d e m n : ℕ} {xs : List Float} {v : ℕ → ℕ → Float} → (m ≡ d) × (n ≡ e) → Held d e xs v → Held m n xs v
+held-at q h = rw (q .0, q .1) h
 
-pub table-three : {D P p m : ℕ} {table : List Float} → m ≡ 3 → Table D P p m table → Table D P p 3 table
-table-three e h = rw e at h
+pub fits-at : {f : Integrand} {d e m n : ℕ} {a : Distant} → (m ≡ d) × (n ≡ e) → DistantFits f m n a → DistantFits f d e a
+fits-at q h = rw (q .0, q .1) at h

@@ -14,7 +14,7 @@ use Rattle.numbers.specs.Ranges.{within}
 use Rattle.function.specs.Elements.{mostDim}
 use Rattle.integrands.specs.declared.Integrand.{Integrand}
 use Rattle.numbers.specs.Floats.{0·0, _!_, allFinite}
-use Rattle.integrands.specs.Terms.{kernelWidth, tableRows}
+use Rattle.integrands.specs.Terms.{integrandRight, kernelWidth, tableRows}
 
 -- a touching pair: one list of points for both cells
 pub record Touching : Type 0 where
@@ -125,14 +125,16 @@ module _ (f : Integrand) (m n : ℕ) where
   abbrev pub distantChecks : Distant → List Check
   distantChecks a = check 9 (distantCounts a) ∷ check 10 (distantLengths a) ∷ check 11 (distantNumbers a) ∷ []
 
--- what the work needs: at most ten basis functions, a point count in its range, and the lengths of check 10
+-- what the work needs: an integrand that passes check 6, at most ten basis functions, a point count in its range, and the lengths of check 10
 pub record TouchingFits (f : Integrand) (m n : ℕ) (a : Touching) : Type 0 where
+  pub right : integrandRight f ≡ true
   pub testFew : m ≤ mostDim
   pub trialFew : n ≤ mostDim
   pub count : a .points ≤ mostTouchingPoints
   pub lengths : touchingLengths f m n a ≡ true
 
 pub record DistantFits (f : Integrand) (m n : ℕ) (a : Distant) : Type 0 where
+  pub right : integrandRight f ≡ true
   pub testFew : m ≤ mostDim
   pub trialFew : n ≤ mostDim
   pub testCount : a .testPoints ≤ mostDistantPoints

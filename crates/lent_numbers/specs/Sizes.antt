@@ -11,7 +11,7 @@ use Rattle.lists.specs.Refusals.{refusal, refusal-at}
 use Rattle.numbers.specs.Ranges.{within, within-high}
 use Rattle.function.specs.Elements.{mostDim}
 use Rattle.integrands.specs.declared.Integrand.{Integrand}
-use Rattle.integrands.specs.Terms.{kernelWidth, tableRows}
+use Rattle.integrands.specs.Terms.{integrandRight, kernelWidth, tableRows}
 use Rattle.integrands.specs.Columns.{rows-some, width-some}
 use Rattle.lent_numbers.specs.Lent.{mostTouchingPoints, mostDistantPoints, mostPointPairs, Touching, Distant, TouchingFits, DistantFits, touchingCount, touchingLengths, touchingChecks, distantCounts, distantLengths, distantChecks}
 
@@ -76,16 +76,16 @@ small-pairs T R ht hr = product-le T R mostDistantPoints mostDistantPoints ht hr
 
 -- ---- a local matrix may be worked out where the checks pass
 
-pub touching-fits : (f : Integrand) (m n : ℕ) (a : Touching) → m ≤ mostDim → n ≤ mostDim → refusal (touchingChecks f m n a) ≡ 0 → TouchingFits f m n a
+pub touching-fits : (f : Integrand) (m n : ℕ) (a : Touching) → integrandRight f ≡ true → m ≤ mostDim → n ≤ mostDim → refusal (touchingChecks f m n a) ≡ 0 → TouchingFits f m n a
 unfolding touchingCount
-touching-fits f m n a hm hn e =
-    record { testFew = hm; trialFew = hn; count = within-high _ _ _ (refusal-at _ e refl 0); lengths = refusal-at _ e refl 1 }
+touching-fits f m n a right hm hn e =
+    record { right = right; testFew = hm; trialFew = hn; count = within-high _ _ _ (refusal-at _ e refl 0); lengths = refusal-at _ e refl 1 }
 
 pub few-points : (x y : ℕ) → within 1 mostDistantPoints x and within 1 mostDistantPoints y ≡ true → (x ≤ mostDistantPoints) × (y ≤ mostDistantPoints)
 few-points x y e = (within-high _ _ _ (and-left _ _ e), within-high _ _ _ (and-right _ _ e))
 
-pub distant-fits : (f : Integrand) (m n : ℕ) (a : Distant) → m ≤ mostDim → n ≤ mostDim → refusal (distantChecks f m n a) ≡ 0 → DistantFits f m n a
+pub distant-fits : (f : Integrand) (m n : ℕ) (a : Distant) → integrandRight f ≡ true → m ≤ mostDim → n ≤ mostDim → refusal (distantChecks f m n a) ≡ 0 → DistantFits f m n a
 unfolding distantCounts
-distant-fits f m n a hm hn e =
+distant-fits f m n a right hm hn e =
     let few = few-points _ _ (refusal-at _ e refl 0) in
-    record { testFew = hm; trialFew = hn; testCount = few .0; trialCount = few .1; lengths = refusal-at _ e refl 1 }
+    record { right = right; testFew = hm; trialFew = hn; testCount = few .0; trialCount = few .1; lengths = refusal-at _ e refl 1 }

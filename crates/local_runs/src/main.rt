@@ -84,6 +84,9 @@ fn touching_agrees(
 ) -> bool
     requires { ⌜ (m ≤ 10) × (n ≤ 10) ⌝ }
 {
+    if !integrands::integrand_right(f) {
+        return false;
+    }
     let refusal = lent_numbers::touching_refusal(
         f,
         m,
@@ -133,6 +136,9 @@ fn distant_agrees(
 ) -> bool
     requires { ⌜ (m ≤ 10) × (n ≤ 10) ⌝ }
 {
+    if !integrands::integrand_right(f) {
+        return false;
+    }
     let refusal = lent_numbers::distant_refusal(
         f,
         m,

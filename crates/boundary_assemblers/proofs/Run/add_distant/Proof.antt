@@ -52,7 +52,7 @@ distant-matrix-requires : tie.Need-distant-matrix-requires
 distant-matrix-requires c κs =
     let h = standing _ _ _ (sym (c .before .before .before .before .before .before .before .before .before .before .before .before .e .given .1) ∙ rw (c .before .before .before .before .before .before .before .before .before .before .before .before .before .before .before .matrix-right .ensures) at (c .before .before .before .before .before .before .before .before .before .before .before .before .before .before .state-checked .ensures)) in
     rw (c .before .before .dim2 .ensures, c .before .before .before .dim .ensures)
-    (distant-fits _ _ _ _ (h .ranges .test) (h .ranges .trial) (sym (rw (c .before .before .dim2 .ensures, c .before .before .before .dim .ensures) at (c .before .distant-refusal .ensures)) ∙ c .if2 .left))
+    (distant-fits _ _ _ _ (h .ranges .integrand) (h .ranges .test) (h .ranges .trial) (sym (rw (c .before .before .dim2 .ensures, c .before .before .before .dim .ensures) at (c .before .distant-refusal .ensures)) ∙ c .if2 .left))
 
 add-matrix-requires : tie.Need-add-matrix-requires
 add-matrix-requires c κs = standing _ _ _ (sym (c .before .before .before .before .before .before .before .before .before .before .before .before .before .before .e .given .1) ∙ rw (c .before .before .before .before .before .before .before .before .before .before .before .before .before .before .before .before .before .matrix-right .ensures) at (c .before .before .before .before .before .before .before .before .before .before .before .before .before .before .before .before .state-checked .ensures))

@@ -66,7 +66,7 @@ touching-matrix-requires : tie.Need-touching-matrix-requires
 touching-matrix-requires c κs =
     let h = standing _ _ _ (sized-same _ _ _ (sym (c .before .before .before .before .before .before .before .before .before .before .before .before .e .given .1) ∙ rw (c .before .before .before .before .before .before .before .before .before .before .before .before .before .before .before .entries-right .ensures) at (c .before .before .before .before .before .before .before .before .before .before .before .before .before .before .state-checked .ensures))) in
     rw (c .before .before .dim2 .ensures, c .before .before .before .dim .ensures)
-    (touching-fits _ _ _ _ (h .ranges .test) (h .ranges .trial) (sym (rw (c .before .before .dim2 .ensures, c .before .before .before .dim .ensures) at (c .before .touching-refusal .ensures)) ∙ c .if2 .left))
+    (touching-fits _ _ _ _ (h .ranges .integrand) (h .ranges .test) (h .ranges .trial) (sym (rw (c .before .before .dim2 .ensures, c .before .before .before .dim .ensures) at (c .before .touching-refusal .ensures)) ∙ c .if2 .left))
 
 write-entries-requires : tie.Need-write-entries-requires
 unfolding _and_

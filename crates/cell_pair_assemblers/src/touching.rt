@@ -1,0 +1,184 @@
+// The local matrix of a touching pair, for one term: value·(weight·(test jdet·trial jdet)), which is weighed once.
+use crate::LocalMatrix;
+use integrands::Integrand;
+use point_sums::add_curls;
+use point_sums::add_outer;
+ghost use mathlib.Core.Path.{_≡_};
+ghost use Prim.Native.Nat.{ℕ, _+_, _<_};
+ghost use Rattle.integrands.specs.Columns.{Held};
+ghost use Rattle.lent_numbers.specs.Lent.{touching, TouchingFits};
+ghost use Rattle.cell_pair_assemblers.specs.Matrices.{TouchingEntries};
+ghost use Rattle.cell_pair_assemblers.specs.Facts.{Alone, touchingSum};
+
+// What point q adds to each entry, c·t·r.
+fn touching_outer(
+    entries: &mut [f64; 100],
+    f: Integrand,
+    width: usize,
+    rows: usize,
+    q: usize,
+    test_dim: usize,
+    trial_dim: usize,
+    points: usize,
+    weights: &[f64],
+    test_table: &[f64],
+    trial_table: &[f64],
+    kernel: &[f64],
+    test_geometry: &[f64],
+    trial_geometry: &[f64],
+)
+    requires { ⌜ (q < points) × Alone f width rows × (rows ≡ 3 → ⊥)
+        × TouchingFits f «test_dim» «trial_dim» (touching «points» (now «weights») (now «test_table») (now «trial_table») (now «kernel») (now «test_geometry») (now «trial_geometry»))
+        × Held «test_dim» «trial_dim» (now entries) (λ (i j : ℕ). touchingSum f (touching «points» (now «weights») (now «test_table») (now «trial_table») (now «kernel») (now «test_geometry») (now «trial_geometry»)) i j q) ⌝ }
+    ensures { λ _. ⌜ Held «test_dim» «trial_dim» (now (entries .exit)) (λ (i j : ℕ). touchingSum f (touching «points» (now («weights» .entry)) (now («test_table» .entry)) (now («trial_table» .entry)) (now («kernel» .entry)) (now («test_geometry» .entry)) (now («trial_geometry» .entry))) i j (q + 1)) ⌝ }
+{
+    let test = integrands::geometry_at(test_geometry, q);
+    let trial = integrands::geometry_at(trial_geometry, q);
+    let weight = weights[q] * (test.jdet * trial.jdet);
+    let first = f.first;
+    let value = integrands::point_value(integrands::kind_of(first), kernel, width * q, test, trial);
+    if (test_dim == 3) & (trial_dim == 3) {
+        add_outer(
+            entries,
+            first,
+            value.c,
+            weight,
+            1.0,
+            rows,
+            test_table,
+            points,
+            q,
+            3,
+            trial_table,
+            points,
+            q,
+            3,
+        );
+    } else {
+        add_outer(
+            entries,
+            first,
+            value.c,
+            weight,
+            1.0,
+            rows,
+            test_table,
+            points,
+            q,
+            test_dim,
+            trial_table,
+            points,
+            q,
+            trial_dim,
+        );
+    }
+}
+
+// What point q adds to each entry, with curls.
+fn touching_curls(
+    entries: &mut [f64; 100],
+    f: Integrand,
+    width: usize,
+    rows: usize,
+    q: usize,
+    test_dim: usize,
+    trial_dim: usize,
+    points: usize,
+    weights: &[f64],
+    test_table: &[f64],
+    trial_table: &[f64],
+    kernel: &[f64],
+    test_geometry: &[f64],
+    trial_geometry: &[f64],
+)
+    requires { ⌜ (q < points) × Alone f width rows × (rows ≡ 3)
+        × TouchingFits f «test_dim» «trial_dim» (touching «points» (now «weights») (now «test_table») (now «trial_table») (now «kernel») (now «test_geometry») (now «trial_geometry»))
+        × Held «test_dim» «trial_dim» (now entries) (λ (i j : ℕ). touchingSum f (touching «points» (now «weights») (now «test_table») (now «trial_table») (now «kernel») (now «test_geometry») (now «trial_geometry»)) i j q) ⌝ }
+    ensures { λ _. ⌜ Held «test_dim» «trial_dim» (now (entries .exit)) (λ (i j : ℕ). touchingSum f (touching «points» (now («weights» .entry)) (now («test_table» .entry)) (now («trial_table» .entry)) (now («kernel» .entry)) (now («test_geometry» .entry)) (now («trial_geometry» .entry))) i j (q + 1)) ⌝ }
+{
+    let test = integrands::geometry_at(test_geometry, q);
+    let trial = integrands::geometry_at(trial_geometry, q);
+    let w = weights[q] * (test.jdet * trial.jdet);
+    let first = f.first;
+    let value = integrands::point_value(integrands::kind_of(first), kernel, width * q, test, trial);
+    add_curls(
+        entries,
+        first,
+        value.c,
+        w,
+        1.0,
+        test_geometry,
+        trial_geometry,
+        rows,
+        test_table,
+        points,
+        q,
+        test_dim,
+        trial_table,
+        points,
+        q,
+        trial_dim,
+    );
+}
+
+pub fn one_touching(
+    f: Integrand,
+    test_dim: usize,
+    trial_dim: usize,
+    points: usize,
+    weights: &[f64],
+    test_table: &[f64],
+    trial_table: &[f64],
+    kernel: &[f64],
+    test_geometry: &[f64],
+    trial_geometry: &[f64],
+) -> LocalMatrix
+    requires { ⌜ (f .terms ≡ 1) × TouchingFits f «test_dim» «trial_dim» (touching «points» (now «weights») (now «test_table») (now «trial_table») (now «kernel») (now «test_geometry») (now «trial_geometry»)) ⌝ }
+    ensures { λ r. ⌜ TouchingEntries f «test_dim» «trial_dim» (touching «points» (now («weights» .entry)) (now («test_table» .entry)) (now («trial_table» .entry)) (now («kernel» .entry)) (now («test_geometry» .entry)) (now («trial_geometry» .entry))) r ⌝ }
+{
+    let rows = integrands::table_rows(f);
+    let width = integrands::kernel_width(f);
+    let mut entries = [0.0; 100];
+    for q in 0..points {
+        if rows == 3 {
+            touching_curls(
+                &mut entries,
+                f,
+                width,
+                rows,
+                q,
+                test_dim,
+                trial_dim,
+                points,
+                weights,
+                test_table,
+                trial_table,
+                kernel,
+                test_geometry,
+                trial_geometry,
+            );
+        } else {
+            touching_outer(
+                &mut entries,
+                f,
+                width,
+                rows,
+                q,
+                test_dim,
+                trial_dim,
+                points,
+                weights,
+                test_table,
+                trial_table,
+                kernel,
+                test_geometry,
+                trial_geometry,
+            );
+        }
+    }
+    LocalMatrix {
+        entries: entries,
+        test_dim: test_dim,
+        trial_dim: trial_dim,
+    }
+}
