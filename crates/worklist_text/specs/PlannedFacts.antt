@@ -6,8 +6,7 @@ use native.Mathlib.Omega.{arith}
 use mathlib.Core.Path.{_≡_, refl, sym, ap, _∙_}
 use mathlib.Core.Bool.{Bool, true, false}
 use mathlib.Core.List.{List, [], _∷_, _++_}
-use lib.ListN.{length, take, replicate, length-replicate}
-use lib.Seq.{length-take-le}
+use lib.ListN.{length, replicate, length-replicate}
 use borrow.Author.Tests.{eq-eqb}
 use Rattle.lists.specs.Bool.{every-of, _also_, end}
 use Rattle.lists.specs.Range.{AllIn, all-in-append}
@@ -103,10 +102,6 @@ few-places C d h k = mul-le-mul h k
 
 pub few-pairs : (C : ℕ) → C ≤ mostWorklistCells → C * C ≤ mostWorklistCells * mostWorklistCells
 few-pairs C h = mul-le-mul h h
-
--- the first n numbers of a list that has as many
-pub took : (n : ℕ) (xs : List ℕ) {m : ℕ} → n ≤ length xs → n ≡ m → length (take n xs) ≡ m
-took n xs h e = length-take-le n xs h ∙ e
 
 -- the text is the same as with lists of the right lengths
 short-text : (x : Planning) (l : Lists)

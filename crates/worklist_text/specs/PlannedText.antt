@@ -3,9 +3,7 @@ use Prim.Native.Nat.{ℕ, zero, suc, _*_, _≤_}
 use mathlib.Core.Path.{_≡_}
 use mathlib.Core.List.{List, _++_, flatMap}
 use lib.ListN.{length, drop}
-use Rattle.function.specs.Elements.{mostDim}
 use Rattle.job.specs.Job.{mostWorklistCells}
-use Rattle.work_records.specs.Records.{width}
 use Rattle.plans.specs.Planning.{Planning, Lists, listsFor, planRefusal, workRecords}
 use Rattle.worklist_text.specs.Text.{lineOf, refusedLine}
 
@@ -19,16 +17,6 @@ plannedText x l = answerText (planRefusal x l) x
 -- with lists of the right lengths
 abbrev pub rightText : Planning → List ℕ
 rightText x = plannedText x (listsFor x)
-
--- arrays that are long enough for the lists of the most cells
-pub record Arrays (testDofs trialDofs testColours trialColours testOwners trialOwners work : List ℕ) : Type 0 where
-  pub test-dofs : mostWorklistCells * mostDim ≤ length testDofs
-  pub trial-dofs : mostWorklistCells * mostDim ≤ length trialDofs
-  pub test-colours : mostWorklistCells ≤ length testColours
-  pub trial-colours : mostWorklistCells ≤ length trialColours
-  pub test-owners : 3 * (mostWorklistCells * mostDim) ≤ length testOwners
-  pub trial-owners : 3 * (mostWorklistCells * mostDim) ≤ length trialOwners
-  pub works : width * (mostWorklistCells * mostWorklistCells) ≤ length work
 
 -- the most bytes of the text, 49,152: a line of at most 12 bytes for each pair of cells
 abbrev pub mostText : ℕ
