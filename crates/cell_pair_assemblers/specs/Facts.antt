@@ -14,17 +14,17 @@ use Rattle.function.specs.Elements.{mostDim}
 use Rattle.table.specs.Rows.{tableRow}
 use Rattle.integrands.specs.declared.Integrand.{Integrand}
 use Rattle.integrands.specs.declared.Geometry.{Geometry}
-use Rattle.integrands.specs.declared.PointValue.{PointValue}
+use Rattle.integrands.specs.declared.KindValue.{KindValue}
 use Rattle.integrands.specs.Terms.{kindOf, integrandRight, kernelWidth, tableRows}
 use Rattle.integrands.specs.ValueFacts.{one-outer-value, one-curls-value}
-use Rattle.integrands.specs.Parts.{Point, factored}
+use Rattle.integrands.specs.Parts.{ValueOfKind, factored}
 use Rattle.integrands.specs.Values.{geometryAt, curlCurl, pointValue}
 use Rattle.integrands.specs.Columns.{Held, Added, Table, held-added, rows-some, hundred-place}
 use Rattle.lent_numbers.specs.Lent.{mostDistantPoints, mostPointPairs, Touching, Distant, TouchingFits, DistantFits}
 use Rattle.lent_numbers.specs.Sizes.{touching-sizes, distant-sizes, small-pairs}
 use Rattle.lent_numbers.specs.Entries.{touchingValue, touchingSummand, touchingEntry, distantValue, distantSummand, distantEntry}
 
--- one term alone, with its kernel width and table rows as the code has them
+-- one term alone, which passes check 6, with its kernel width and table rows as the code has them
 pub record Alone (f : Integrand) (K D : ℕ) : Type 0 where
   pub one : f .terms ≡ 1
   pub width : K ≡ kernelWidth f
@@ -121,8 +121,8 @@ summandAt f K D T R t r test v testTable trialTable kernel trialWeights trialGeo
     ⊗ (trialWeights ! r ⊗ geometryAt trialGeometry r .jdet)
     ⊗ v
 
-module _ (f : Integrand) (k t r : ℕ → Float) (test trial : Geometry) {K D kind : ℕ} {x : PointValue} (alone : Alone f K D) (is : kind ≡ kindOf (f .first)) (point : Point kind k test trial x) where
-  at-first : Point (kindOf (f .first)) k test trial x
+module _ (f : Integrand) (k t r : ℕ → Float) (test trial : Geometry) {K D kind : ℕ} {x : KindValue} (alone : Alone f K D) (is : kind ≡ kindOf (f .first)) (point : ValueOfKind kind k test trial x) where
+  at-first : ValueOfKind (kindOf (f .first)) k test trial x
   at-first = rw is at point
 
   pub outer-value : (D ≡ 3 → ⊥) → factored (f .first) (x .c ⊗ t 0 ⊗ r 0) ≡ pointValue f k t r test trial
@@ -156,7 +156,7 @@ module _ (f : Integrand) where
   unfoldable pub distantSum : Distant → ℕ → ℕ → ℕ → ℕ → Float
   distantSum a i j t r = upto (λ (r : ℕ) (s : Float). s ⊕ distantSummand f a i j t r) r (distantRows a i j t)
 
-  pub touching-start : (a : Touching) (i j : ℕ) → 0·0 ≡ touchingSum a i j 0
+  touching-start : (a : Touching) (i j : ℕ) → 0·0 ≡ touchingSum a i j 0
   unfolding touchingSum
   touching-start a i j = sym (upto-none (λ (p : ℕ) (sum : Float). sum ⊕ touchingSummand f a i j p) 0·0)
 
@@ -180,7 +180,7 @@ module _ (f : Integrand) where
   unfolding touchingSum touchingEntry
   touching-end a i j = refl
 
-  pub distant-start : (a : Distant) (i j : ℕ) → 0·0 ≡ distantRows a i j 0
+  distant-start : (a : Distant) (i j : ℕ) → 0·0 ≡ distantRows a i j 0
   unfolding distantRows
   distant-start a i j = sym (upto-none (λ (t : ℕ) (sum : Float). upto (λ (r : ℕ) (s : Float). s ⊕ distantSummand f a i j t r) (a .trialPoints) sum) 0·0)
 

@@ -3,7 +3,7 @@ use crate::LocalMatrix;
 use integrands::Geometry;
 use integrands::Integrand;
 use point_sums::add_curls;
-use point_sums::outer;
+use point_sums::add_outer_at;
 ghost use mathlib.Core.Path.{_≡_};
 ghost use Prim.Native.Nat.{ℕ, _+_, _*_, _<_, _≤_};
 ghost use Rattle.integrands.specs.Columns.{Held, Added};
@@ -14,7 +14,7 @@ ghost use Rattle.lent_numbers.specs.Lent.{distant, DistantFits};
 ghost use Rattle.cell_pair_assemblers.specs.Matrices.{DistantEntries};
 ghost use Rattle.cell_pair_assemblers.specs.Facts.{Alone, Reaches, summandAt, distantRows};
 
-// What test point t and trial point r add to each entry, c·t·r. v is test weight·test jdet.
+// What test point t and trial point r add to each entry, for a term without curls. v is test weight·test jdet.
 fn distant_outer(
     entries: &mut [f64; 100],
     f: Integrand,
@@ -41,14 +41,14 @@ fn distant_outer(
     let trial = integrands::geometry_at(trial_geometry, r);
     let w = trial_weights[r] * trial.jdet;
     let first = f.first;
-    let value = integrands::point_value(
+    let value = integrands::kind_value(
         integrands::kind_of(first),
         kernel,
         width * (t + test_points * r),
         test,
         trial,
     );
-    outer(
+    add_outer_at(
         entries,
         first,
         value.c,
@@ -66,7 +66,7 @@ fn distant_outer(
     );
 }
 
-// What test point t and trial point r add to each entry, with curls.
+// What test point t and trial point r add to each entry, for a term with curls.
 fn distant_curls(
     entries: &mut [f64; 100],
     f: Integrand,
@@ -94,7 +94,7 @@ fn distant_curls(
     let trial = integrands::geometry_at(trial_geometry, r);
     let w = trial_weights[r] * trial.jdet;
     let first = f.first;
-    let value = integrands::point_value(
+    let value = integrands::kind_value(
         integrands::kind_of(first),
         kernel,
         width * (t + test_points * r),
@@ -121,7 +121,7 @@ fn distant_curls(
     );
 }
 
-// What test point t, with each trial point, adds to each entry.
+// What test point t, with each trial point, adds to each entry. With one term, three table rows mean that its value has curls.
 fn row(
     entries: &mut [f64; 100],
     f: Integrand,
@@ -193,7 +193,8 @@ fn row(
     }
 }
 
-// As `row`. The compiler copies a row into `row_at`, with the dims written out, as long as the points are called from two places.
+// As `row`, for other dims, and a copy of it: the compiler puts `row` into `row_at`, with the dims written out, only while `distant_outer` and
+// `distant_curls` have a second caller.
 fn row_rest(
     entries: &mut [f64; 100],
     f: Integrand,
@@ -357,6 +358,7 @@ fn row_at(
     }
 }
 
+// The local matrix: test point after test point.
 pub fn one_distant(
     f: Integrand,
     test_dim: usize,

@@ -10,7 +10,7 @@ ghost use Rattle.lent_numbers.specs.Lent.{touching, TouchingFits};
 ghost use Rattle.cell_pair_assemblers.specs.Matrices.{TouchingEntries};
 ghost use Rattle.cell_pair_assemblers.specs.Facts.{Alone, touchingSum};
 
-// What point q adds to each entry, c·t·r.
+// What point q adds to each entry, for a term without curls.
 fn touching_outer(
     entries: &mut [f64; 100],
     f: Integrand,
@@ -36,7 +36,7 @@ fn touching_outer(
     let trial = integrands::geometry_at(trial_geometry, q);
     let weight = weights[q] * (test.jdet * trial.jdet);
     let first = f.first;
-    let value = integrands::point_value(integrands::kind_of(first), kernel, width * q, test, trial);
+    let value = integrands::kind_value(integrands::kind_of(first), kernel, width * q, test, trial);
     if (test_dim == 3) & (trial_dim == 3) {
         add_outer(
             entries,
@@ -74,7 +74,7 @@ fn touching_outer(
     }
 }
 
-// What point q adds to each entry, with curls.
+// What point q adds to each entry, for a term with curls.
 fn touching_curls(
     entries: &mut [f64; 100],
     f: Integrand,
@@ -100,7 +100,7 @@ fn touching_curls(
     let trial = integrands::geometry_at(trial_geometry, q);
     let w = weights[q] * (test.jdet * trial.jdet);
     let first = f.first;
-    let value = integrands::point_value(integrands::kind_of(first), kernel, width * q, test, trial);
+    let value = integrands::kind_value(integrands::kind_of(first), kernel, width * q, test, trial);
     add_curls(
         entries,
         first,
@@ -121,6 +121,7 @@ fn touching_curls(
     );
 }
 
+// The local matrix: point after point. With one term, three table rows mean that its value has curls.
 pub fn one_touching(
     f: Integrand,
     test_dim: usize,

@@ -46,10 +46,11 @@ theorem =
     and-also F4-holds
     and-also no-more
 
--- and some beside them, for what these leave untouched: M4, M5 and M7 as records, M accepted, M7 and M8 as text, jobs cut short, longer and too large, what
--- reading a job answers and writes; owner records, a DOF count, colours by edges, two DOFs on an entity; the plus 1 of a pattern and its i and j; kinds 1 and 4,
--- a factor, two terms; sums in which rounding shows, and ones of several points and basis functions; where local entries go, and in which order; work lists as planning leaves them, the first of
--- several faults, and what look and the adds answer to runs and plans that no planning gave
+-- and some beside them, for what these leave untouched: M4, M5 and M7 as records, M accepted, with its rows and columns, M7 and M8 as text, jobs cut short,
+-- longer and too large, what reading a job answers and writes; owner records, a DOF count, colours by edges, two DOFs on an entity; the plus 1 of a pattern and
+-- its i and j; kinds 1 and 4, a factor, two terms; sums in which rounding shows, and ones of several points and basis functions; where local entries go, and in
+-- which order; work lists as planning leaves them, the first of several faults, record 0 looked at, and what look and the adds answer to runs and plans that no
+-- planning gave
 abbrev pub more : List Example
 more =
     M4-records ∷ M5-records ∷ M7-records ∷ M-planned ∷ M-sizes ∷ M7-twice-text ∷ refused-texts ∷ M4-read ∷ M4-lists

@@ -1,4 +1,4 @@
--- A point value in parts, as the code works it out: what belongs to the point, and what each basis function brings. x is the rows of one. Assumes nothing.
+-- A point value in parts, as the code works it out: what belongs to the point, and what each basis function brings. x are the table rows of one. Assumes nothing.
 use Prim.Native.Nat.{ℕ}
 use mathlib.Core.Bool.{Bool, true, false, cond}
 use mathlib.Core.Path.{_≡_}
@@ -6,18 +6,18 @@ use lib.Dec.{eqb}
 use lib.Ieee.{Float}
 use Rattle.numbers.specs.Floats.{_⊕_, _⊗_, _⊘_}
 use Rattle.integrands.specs.declared.Geometry.{Geometry}
-use Rattle.integrands.specs.declared.PointValue.{PointValue}
+use Rattle.integrands.specs.declared.KindValue.{KindValue}
 use Rattle.integrands.specs.declared.Side.{Side}
 use Rattle.integrands.specs.declared.Term.{Term}
 use Rattle.integrands.specs.declared.Term.the-variants.{Bare, Scaled}
 use Rattle.integrands.specs.Values.{curl, curlCurl, kindValue}
 
--- what a point value stands for, of basis functions with the rows t and r: c·t·r, or the curls with c before them
-unfoldable pub valueOf : PointValue → (ℕ → Float) → (ℕ → Float) → Geometry → Geometry → Float
+-- what it stands for, of basis functions with the rows t and r: c·t·r, or the curls with c before them
+unfoldable pub valueOf : KindValue → (ℕ → Float) → (ℕ → Float) → Geometry → Geometry → Float
 valueOf v t r test trial = cond (v .curls) (curlCurl (λ (d : ℕ). v .c) t r test trial) (v .c ⊗ t 0 ⊗ r 0)
 
 -- v is the value of the kind at a point, whatever the basis functions; the kind with curls is 3
-pub record Point (kind : ℕ) (k : ℕ → Float) (test trial : Geometry) (v : PointValue) : Type 0 where
+pub record ValueOfKind (kind : ℕ) (k : ℕ → Float) (test trial : Geometry) (v : KindValue) : Type 0 where
   pub curls : v .curls ≡ eqb kind 3
   pub value : (t r : ℕ → Float) → valueOf v t r test trial ≡ kindValue kind k t r test trial
 

@@ -125,7 +125,7 @@ module _ (f : Integrand) (m n : ℕ) where
   abbrev pub distantChecks : Distant → List Check
   distantChecks a = check 9 (distantCounts a) ∷ check 10 (distantLengths a) ∷ check 11 (distantNumbers a) ∷ []
 
--- what the work needs: an integrand that passes check 6, at most ten basis functions, a point count in its range, and the lengths of check 10
+-- what the work needs: an integrand that passes check 6, at most ten basis functions, point counts not above their range, and the lengths of check 10
 pub record TouchingFits (f : Integrand) (m n : ℕ) (a : Touching) : Type 0 where
   pub right : integrandRight f ≡ true
   pub testFew : m ≤ mostDim

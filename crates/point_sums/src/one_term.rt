@@ -1,10 +1,9 @@
 // What a pair of points adds to each entry, for one term: value·w·v. A value that is weighed once has 1 for v.
 use function::MOST_DIM;
-use integrands::PointValue;
+use integrands::KindValue;
 use integrands::Side;
 use integrands::Term;
 ghost use Rattle.function.specs.Elements.{mostDim};
-ghost use mathlib.Core.Bool.{true};
 ghost use mathlib.Core.Path.{_≡_};
 ghost use Prim.Native.Nat.{ℕ, _+_, _*_, _<_, _≤_};
 ghost use lib.ListN.{length};
@@ -16,7 +15,7 @@ ghost use Rattle.integrands.specs.Columns.{Table, Added};
 ghost use Rattle.integrands.specs.Parts.{factored, fromSides};
 ghost use Rattle.integrands.specs.Values.{geometryAt, curlCurl};
 
-// One column: entry + c·t·r·w·v, with the term's factor before it.
+// One column: entry + value·w·v, where value is c·t·r with the term's factor before it.
 fn outer_column(
     entries: &mut [f64; 100],
     dim: usize,
@@ -36,7 +35,7 @@ fn outer_column(
     }
 }
 
-// entry + c·t·r·w·v, with the term's factor before it, of each entry.
+// entry + value·w·v of each entry, where value is c·t·r with the term's factor before it.
 pub fn add_outer(
     entries: &mut [f64; 100],
     term: Term,
@@ -66,7 +65,7 @@ pub fn add_outer(
 }
 
 // As `add_outer`: the compiler knows the bounds where they are written out.
-pub fn outer(
+pub fn add_outer_at(
     entries: &mut [f64; 100],
     term: Term,
     c: f64,
@@ -140,13 +139,13 @@ pub fn outer(
     }
 }
 
-// One column of curls: entry + value·w·v, with the term's factor before it.
+// One column of curls: entry + value·w·v, where value is c·(P0 + P1 + P2)/test jdet/trial jdet with the term's factor before it.
 fn curls_column(
     entries: &mut [f64; 100],
     dim: usize,
     j: usize,
     term: Term,
-    x: PointValue,
+    x: KindValue,
     a0: &[f64; MOST_DIM],
     a1: &[f64; MOST_DIM],
     a2: &[f64; MOST_DIM],
@@ -167,7 +166,7 @@ fn curls_column(
     }
 }
 
-// entry + c·(P0 + P1 + P2)/test jdet/trial jdet·w·v, with the term's factor before it, of each entry.
+// entry + value·w·v of each entry, with such a value. It reads the geometries itself: handed over they would have to stand in memory at every point.
 pub fn add_curls(
     entries: &mut [f64; 100],
     term: Term,
@@ -192,7 +191,7 @@ pub fn add_curls(
 {
     let test = integrands::geometry_at(test_geometry, p);
     let trial = integrands::geometry_at(trial_geometry, q);
-    let x = PointValue { c: c, curls: true };
+    let x = KindValue { c: c, curls: true };
     let mut a0 = [0.0; MOST_DIM];
     let mut a1 = [0.0; MOST_DIM];
     let mut a2 = [0.0; MOST_DIM];

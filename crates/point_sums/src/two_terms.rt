@@ -3,7 +3,7 @@ use crate::Weight;
 use function::MOST_DIM;
 use integrands::Geometry;
 use integrands::Integrand;
-use integrands::PointValue;
+use integrands::KindValue;
 use integrands::Side;
 use integrands::Term;
 ghost use Rattle.function.specs.Elements.{mostDim};
@@ -18,7 +18,7 @@ ghost use Rattle.integrands.specs.Terms.{kindOf, integrandRight, kernelWidth, t
 ghost use Rattle.integrands.specs.Values.{termValue, pointValue};
 ghost use Rattle.table.specs.Rows.{tableRow};
 ghost use Rattle.integrands.specs.Columns.{Table, Added};
-ghost use Rattle.integrands.specs.Parts.{Point, factored, fromSides};
+ghost use Rattle.integrands.specs.Parts.{ValueOfKind, factored, fromSides};
 ghost use Rattle.point_sums.specs.Weights.{weighed};
 
 // One column of two terms, first plus second.
@@ -27,13 +27,13 @@ fn two_column(
     dim: usize,
     j: usize,
     first: Term,
-    x: PointValue,
+    x: KindValue,
     a0: &[f64; MOST_DIM],
     a1: &[f64; MOST_DIM],
     a2: &[f64; MOST_DIM],
     b: Side,
     second: Term,
-    y: PointValue,
+    y: KindValue,
     e0: &[f64; MOST_DIM],
     e1: &[f64; MOST_DIM],
     e2: &[f64; MOST_DIM],
@@ -49,9 +49,9 @@ fn two_column(
         (now (entries .entry)) (now (entries .exit)) ⌝ }
 {
     for i in 0..dim {
-        let p = integrands::evaluate(first, x, a0[i], a1[i], a2[i], b, test_jdet, trial_jdet);
-        let q = integrands::evaluate(second, y, e0[i], e1[i], e2[i], h, test_jdet, trial_jdet);
-        entries[i + dim * j] = entries[i + dim * j] + (p + q) * weight.w * weight.v;
+        let one = integrands::evaluate(first, x, a0[i], a1[i], a2[i], b, test_jdet, trial_jdet);
+        let two = integrands::evaluate(second, y, e0[i], e1[i], e2[i], h, test_jdet, trial_jdet);
+        entries[i + dim * j] = entries[i + dim * j] + (one + two) * weight.w * weight.v;
     }
 }
 
@@ -59,9 +59,9 @@ fn two_column(
 fn add_two(
     entries: &mut [f64; 100],
     first: Term,
-    x: PointValue,
+    x: KindValue,
     second: Term,
-    y: PointValue,
+    y: KindValue,
     weight: Weight,
     test: Geometry,
     trial: Geometry,
@@ -76,7 +76,7 @@ fn add_two(
     trial_dim: usize,
 )
     requires { ⌜ (length (now entries) ≡ 100) × Table rows «test_points» p «test_dim» (now «test_table») × Table rows «trial_points» q «trial_dim» (now «trial_table») × (x .curls ≡ true → 3 ≤ rows) × (y .curls ≡ true → 3 ≤ rows) ⌝ }
-    ensures { λ _. ⌜ ((k : ℕ → Float) → Point (kindOf first) k test trial x → Point (kindOf second) k test trial y → Added «test_dim» «trial_dim» (now (entries .entry)) (now (entries .exit)) (λ (i j : ℕ).
+    ensures { λ _. ⌜ ((k : ℕ → Float) → ValueOfKind (kindOf first) k test trial x → ValueOfKind (kindOf second) k test trial y → Added «test_dim» «trial_dim» (now (entries .entry)) (now (entries .exit)) (λ (i j : ℕ).
         weighed weight (termValue first k (tableRow (now («test_table» .entry)) rows «test_points» p i) (tableRow (now («trial_table» .entry)) rows «trial_points» q j) test trial
         ⊕ termValue second k (tableRow (now («test_table» .entry)) rows «test_points» p i) (tableRow (now («trial_table» .entry)) rows «trial_points» q j) test trial))) ⌝ }
 {
@@ -258,9 +258,9 @@ pub fn add_terms(
         weighed weight (pointValue f (λ (d : ℕ). now (kernel .entry) ! (d + at)) (tableRow (now («test_table» .entry)) rows «test_points» p i) (tableRow (now («trial_table» .entry)) rows «trial_points» q j) test trial)) ⌝ }
 {
     let first = f.first;
-    let x = integrands::point_value(integrands::kind_of(first), kernel, at, test, trial);
+    let x = integrands::kind_value(integrands::kind_of(first), kernel, at, test, trial);
     let second = f.second;
-    let y = integrands::point_value(integrands::kind_of(second), kernel, at, test, trial);
+    let y = integrands::kind_value(integrands::kind_of(second), kernel, at, test, trial);
     if x.curls | y.curls {
         add_two(
             entries,

@@ -1,4 +1,4 @@
--- What the calls answer on one cell with one DOF, and on runs and plans that no planning gave: 20 to 23. Assumes nothing.
+-- What the calls answer on one cell with one DOF, and on runs and plans that no planning gave: record 0, 9, and 20 to 23. Assumes nothing.
 use Prim.Native.Nat.{ℕ}
 use mathlib.Core.Path.{refl}
 use mathlib.Core.Bool.{Bool, true, false}
@@ -96,8 +96,9 @@ adds-answered =
     ∷ number (addDistant (at false 0) (planOf (0 ∷ []) (1 ∷ []) (27 ∷ 0 ∷ 0 ∷ [])) M nothing-distant .answer)
     ∷ number (addDistant (at true 0) (planOf (0 ∷ []) (0 ∷ []) (255 ∷ 0 ∷ 0 ∷ [])) M nothing-distant .answer)
     ∷ number (addDistant (at false 0) (planOf (0 ∷ []) (0 ∷ []) (255 ∷ 0 ∷ 0 ∷ [])) M nothing-distant .answer)
+    ∷ number (addTouching (at true 0) (planOf (0 ∷ []) (1 ∷ []) (27 ∷ 0 ∷ 0 ∷ [])) [] nothing .answer)
     ∷ [])
-    (9 ∷ 23 ∷ 21 ∷ 23 ∷ 22 ∷ 23 ∷ 9 ∷ [])
+    (9 ∷ 23 ∷ 21 ∷ 23 ∷ 22 ∷ 23 ∷ 9 ∷ 21 ∷ [])
 
 pub adds-answered-hold : Holds adds-answered
 unfolding opened-runs

@@ -1,5 +1,5 @@
--- The third property: for every planning that is accepted, every starting matrix and every list of calls, of what the contracts of the calls, folded over the
--- list from a fresh dense run on the plan that planning leaves, give. Assumes nothing.
+-- The third property, for every planning that is accepted, every starting matrix and every list of calls: of the contracts of the calls, folded over the
+-- list from a fresh dense run on the plan that planning leaves. Assumes nothing.
 use Prim.Native.Nat.{ℕ, _*_, _<_, _≤_}
 use native.Mathlib.Nat.{zero-add}
 use native.Mathlib.Omega.{arith}
@@ -36,7 +36,8 @@ pub record ThirdProperty (x : Planning) (calls : List Call) (M : List Float) (li
   pub size : length (q .matrix) ≡ length M
   pub entries : (at : ℕ) → at < length M
       → getD (q .matrix) at nan ≡ plusAll (entriesFrom (machineOf x false) 0 (taken calls (q .answers)) at) (getD M at nan)
-  -- as many adds were taken as p says, so the pairs that entered are those of the first p records: no ordered pair of cells has entered twice, and where p = C·C each has entered once
+  -- as many adds were taken as p says, so the pairs that entered are those of the first p records: no ordered pair of cells has entered twice, and where
+  -- p = C·C each has entered once
   pub all-taken : length (taken calls (q .answers)) ≡ q .run .position
   pub never-twice : (i j : ℕ) → i < x .mesh .cells → j < x .mesh .cells → count (ofPair i j) (take (q .run .position) (workRecords x)) ≤ 1
   pub each-once : q .run .position ≡ x .mesh .cells * x .mesh .cells → (i j : ℕ) → i < x .mesh .cells → j < x .mesh .cells

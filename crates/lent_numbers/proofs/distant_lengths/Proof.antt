@@ -1,7 +1,6 @@
 -- `lent_numbers::distant_lengths` meets its contract: no product wraps, and the tests are the definition's. Assumes nothing.
 use Prim.Native.Nat.{_*_}
 use native.Mathlib.Omega.{arith}
-use lib.Ieee as Ieee
 use Rattle.lists.specs.Bool.{_and_, every}
 use Rattle.lent_numbers.specs.Lent.{distantLengths}
 use Rattle.lent_numbers.specs.Sizes.{small-table, small-kernel, small-pairs}

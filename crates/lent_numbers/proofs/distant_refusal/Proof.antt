@@ -1,6 +1,5 @@
 -- `lent_numbers::distant_refusal` meets its contract: the checks answer in their order. Assumes nothing.
 use native.Mathlib.Omega.{arith}
-use lib.Ieee as Ieee
 use Rattle.lists.specs.Bool.{_and_, turned, passed}
 use Rattle.lists.specs.Refusals.{answers, accepted, refused, _then_}
 use borrow.Author.Tests.{not-true, not-false}

@@ -1,6 +1,5 @@
 -- `lent_numbers::touching_lengths` meets its contract: no product wraps, and the tests are the definition's. Assumes nothing.
 use native.Mathlib.Omega.{arith}
-use lib.Ieee as Ieee
 use Rattle.lists.specs.Bool.{_and_, every}
 use Rattle.lent_numbers.specs.Lent.{touchingLengths}
 use Rattle.lent_numbers.specs.Sizes.{small-table, small-kernel}

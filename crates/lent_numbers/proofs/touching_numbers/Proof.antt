@@ -1,5 +1,4 @@
 -- `lent_numbers::touching_numbers` meets its contract: the tests are the definition's. Assumes nothing.
-use lib.Ieee as Ieee
 use Rattle.lists.specs.Bool.{_and_, every}
 use Rattle.lent_numbers.specs.Lent.{touchingNumbers}
 use borrow.Author.Needs.{needs}

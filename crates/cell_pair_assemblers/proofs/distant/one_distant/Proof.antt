@@ -2,7 +2,6 @@
 use mathlib.Core.Path.{_≡_, refl, _∙_}
 use Prim.Native.Nat.{ℕ, _-_, _≤_}
 use native.Mathlib.Omega.{arith}
-use lib.Ieee as Ieee
 use Rattle.integrands.specs.Columns.{Held}
 use Rattle.lent_numbers.specs.Lent.{distant}
 use Rattle.cell_pair_assemblers.specs.Facts.{distantRows, distant-geometry, distant-end, distant-begin}

@@ -3,7 +3,6 @@ use mathlib.Core.Logic.{⊎-elim}
 use mathlib.Core.Path.{_≡_, refl, _∙_}
 use Prim.Native.Nat.{ℕ, _-_, _≤_}
 use native.Mathlib.Omega.{arith}
-use lib.Ieee as Ieee
 use Rattle.integrands.specs.Columns.{Held}
 use Rattle.lent_numbers.specs.Lent.{touching}
 use Rattle.cell_pair_assemblers.specs.Facts.{touchingSum, touching-end, touching-begin}

@@ -1,6 +1,5 @@
 -- `cell_pair_assemblers::touching::touching_curls` meets its contract: the curls are the point value, and are weighed and added, by `touching-once`. Assumes nothing.
 use native.Mathlib.Omega.{arith}
-use lib.Ieee as Ieee
 use Rattle.integrands.specs.Columns.{held-added, first-reads}
 use Rattle.lent_numbers.specs.Lent.{touching}
 use Rattle.lent_numbers.specs.Sizes.{small-kernel}
@@ -24,13 +23,13 @@ shared-slice-read-w c = touching-geometry (c .before .before .before .before .be
 kind-of-requires : tie.Need-kind-of-requires
 kind-of-requires c κs = search needs
 
-mul-point-value : tie.Need-mul-point-value
-mul-point-value c =
+mul-kind-value : tie.Need-mul-kind-value
+mul-kind-value c =
     let start = c .before .before .before .before .before .before .before .before .before .before .before .before in
     rw (start .pre .1 .width) (omega (arith, small-kernel (start .args .f) (start .args .q) (omega (arith, start .pre .0, start .pre .3 .count))))
 
-point-value-requires : tie.Need-point-value-requires
-point-value-requires c κs =
+kind-value-requires : tie.Need-kind-value-requires
+kind-value-requires c κs =
     let start = c .before .before .before .before .before .before .before .before .before .before .before .before in
     rw (c .kind-of .ensures) (first-reads (start .args .f) (start .pre .1 .right) (rw (start .pre .1 .width) (touching-kernel (start .pre .3) (start .args .q) (start .pre .0))))
 
@@ -44,7 +43,7 @@ returns c =
     let start = c .before .before .before .before .before .before .before .before .before .before .before .before .before .before .before in
     held-added _ (start .pre .4) (c .add-curls .ensures)
     (λ i j l b. touching-once (start .args .f) (touching (start .args .points) (start .args .weights .now) (start .args .test-table .now) (start .args .trial-table .now) (start .args .kernel .now) (start .args .test-geometry .now) (start .args .trial-geometry .now)) i j (start .args .q) (start .args .width) (start .args .rows) (c .before .before .before .before .before .before .before .before .geometry-at .result) (c .before .before .before .before .before .before .before .geometry-at2 .result) (c .before .before .before .before .before .before .before .before .geometry-at .ensures) (c .before .before .before .before .before .before .before .geometry-at2 .ensures) (start .pre .1)
-    (curls-value (start .args .f) _ _ _ (c .before .before .before .before .before .before .before .before .geometry-at .result) (c .before .before .before .before .before .before .before .geometry-at2 .result) (start .pre .1) (c .before .before .before .kind-of .ensures) (c .before .before .point-value .ensures) (c .before .before .before .before .before .before .before .before .geometry-at .ensures) (c .before .before .before .before .before .before .before .geometry-at2 .ensures) (start .pre .2)))
+    (curls-value (start .args .f) _ _ _ (c .before .before .before .before .before .before .before .before .geometry-at .result) (c .before .before .before .before .before .before .before .geometry-at2 .result) (start .pre .1) (c .before .before .before .kind-of .ensures) (c .before .before .kind-value .ensures) (c .before .before .before .before .before .before .before .before .geometry-at .ensures) (c .before .before .before .before .before .before .before .geometry-at2 .ensures) (start .pre .2)))
 
 pub touching-curls-spec : {M : Type 1} → statement M
 touching-curls-spec =
@@ -55,7 +54,7 @@ touching-curls-spec =
     mul-w
     shared-slice-read-w
     kind-of-requires
-    mul-point-value
-    point-value-requires
+    mul-kind-value
+    kind-value-requires
     add-curls-requires
     returns)

@@ -1,6 +1,5 @@
 -- `cell_pair_assemblers::touching::touching_outer` meets its contract: c·t·r is the point value, and is weighed and added, by `touching-once`. Assumes nothing.
 use native.Mathlib.Omega.{arith}
-use lib.Ieee as Ieee
 use Rattle.integrands.specs.Columns.{held-added, first-reads}
 use Rattle.lent_numbers.specs.Lent.{touching}
 use Rattle.lent_numbers.specs.Sizes.{small-kernel}
@@ -25,13 +24,13 @@ shared-slice-read-weight c = touching-geometry (c .before .before .before .befor
 kind-of-requires : tie.Need-kind-of-requires
 kind-of-requires c κs = search needs
 
-mul-point-value : tie.Need-mul-point-value
-mul-point-value c =
+mul-kind-value : tie.Need-mul-kind-value
+mul-kind-value c =
     let start = c .before .before .before .before .before .before .before .before .before .before .before .before in
     rw (start .pre .1 .width) (omega (arith, small-kernel (start .args .f) (start .args .q) (omega (arith, start .pre .0, start .pre .3 .count))))
 
-point-value-requires : tie.Need-point-value-requires
-point-value-requires c κs =
+kind-value-requires : tie.Need-kind-value-requires
+kind-value-requires c κs =
     let start = c .before .before .before .before .before .before .before .before .before .before .before .before in
     rw (c .kind-of .ensures) (first-reads (start .args .f) (start .pre .1 .right) (rw (start .pre .1 .width) (touching-kernel (start .pre .3) (start .args .q) (start .pre .0))))
 
@@ -52,14 +51,14 @@ returns c =
     let both = both-are 3 (start .args .test-dim) (start .args .trial-dim) (c .before .before .if1 .taken) in
     held-added _ (start .pre .4) (added-at both (c .add-outer .ensures))
     (λ i j l b. touching-once (start .args .f) (touching (start .args .points) (start .args .weights .now) (start .args .test-table .now) (start .args .trial-table .now) (start .args .kernel .now) (start .args .test-geometry .now) (start .args .trial-geometry .now)) i j (start .args .q) (start .args .width) (start .args .rows) (c .before .before .before .before .before .before .before .before .before .geometry-at .result) (c .before .before .before .before .before .before .before .before .geometry-at2 .result) (c .before .before .before .before .before .before .before .before .before .geometry-at .ensures) (c .before .before .before .before .before .before .before .before .geometry-at2 .ensures) (start .pre .1)
-    (outer-value (start .args .f) _ _ _ (c .before .before .before .before .before .before .before .before .before .geometry-at .result) (c .before .before .before .before .before .before .before .before .geometry-at2 .result) (start .pre .1) (c .before .before .before .before .kind-of .ensures) (c .before .before .before .point-value .ensures) (start .pre .2)))
+    (outer-value (start .args .f) _ _ _ (c .before .before .before .before .before .before .before .before .before .geometry-at .result) (c .before .before .before .before .before .before .before .before .geometry-at2 .result) (start .pre .1) (c .before .before .before .before .kind-of .ensures) (c .before .before .before .kind-value .ensures) (start .pre .2)))
 
 returns-2 : tie.Need-returns-2
 returns-2 c =
     let start = c .before .before .before .before .before .before .before .before .before .before .before .before .before .before .before .before in
     held-added _ (start .pre .4) (c .add-outer2 .ensures)
     (λ i j l b. touching-once (start .args .f) (touching (start .args .points) (start .args .weights .now) (start .args .test-table .now) (start .args .trial-table .now) (start .args .kernel .now) (start .args .test-geometry .now) (start .args .trial-geometry .now)) i j (start .args .q) (start .args .width) (start .args .rows) (c .before .before .before .before .before .before .before .before .before .geometry-at .result) (c .before .before .before .before .before .before .before .before .geometry-at2 .result) (c .before .before .before .before .before .before .before .before .before .geometry-at .ensures) (c .before .before .before .before .before .before .before .before .geometry-at2 .ensures) (start .pre .1)
-    (outer-value (start .args .f) _ _ _ (c .before .before .before .before .before .before .before .before .before .geometry-at .result) (c .before .before .before .before .before .before .before .before .geometry-at2 .result) (start .pre .1) (c .before .before .before .before .kind-of .ensures) (c .before .before .before .point-value .ensures) (start .pre .2)))
+    (outer-value (start .args .f) _ _ _ (c .before .before .before .before .before .before .before .before .before .geometry-at .result) (c .before .before .before .before .before .before .before .before .geometry-at2 .result) (start .pre .1) (c .before .before .before .before .kind-of .ensures) (c .before .before .before .kind-value .ensures) (start .pre .2)))
 
 pub touching-outer-spec : {M : Type 1} → statement M
 touching-outer-spec =
@@ -70,8 +69,8 @@ touching-outer-spec =
     mul-weight
     shared-slice-read-weight
     kind-of-requires
-    mul-point-value
-    point-value-requires
+    mul-kind-value
+    kind-value-requires
     add-outer-requires
     add-outer-requires-2
     returns

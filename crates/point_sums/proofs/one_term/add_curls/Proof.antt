@@ -2,7 +2,6 @@
 use mathlib.Core.Path.{refl, _≡_, ap}
 use Prim.Native.Nat.{ℕ, _-_, _≤_}
 use native.Mathlib.Omega.{arith}
-use lib.Ieee as Ieee
 use lib.Ieee.{Float}
 use Rattle.numbers.specs.Floats.{_⊕_, _⊗_}
 use Rattle.integrands.specs.Values.{geometryAt, curlCurl}

@@ -5,7 +5,6 @@ use native.Mathlib.Nat.{zero-add}
 use native.Mathlib.Omega.{arith}
 use lib.Ieee.{Float}
 use Rattle.lists.specs.Maps.{mapped-at}
-use lib.Ieee as Ieee
 use Rattle.numbers.specs.Floats.{_⊕_, _⊗_}
 use Rattle.integrands.specs.Parts.{factored}
 use Rattle.table.specs.Rows.{tableRow}

@@ -3,7 +3,6 @@ use mathlib.Core.Path.{refl, _≡_, sym, ap, ap₂}
 use Prim.Native.Nat.{ℕ, _-_, _≤_}
 use native.Mathlib.Nat.{zero-add}
 use native.Mathlib.Omega.{arith}
-use lib.Ieee as Ieee
 use lib.Ieee.{Float}
 use Rattle.lists.specs.Maps.{mapped-at}
 use Rattle.numbers.specs.Floats.{_⊕_, _⊗_}

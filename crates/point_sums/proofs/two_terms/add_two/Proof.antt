@@ -3,12 +3,11 @@ use mathlib.Core.Path.{refl, _≡_, _∙_, ap, ap₂}
 use Prim.Native.Nat.{ℕ, _-_, _≤_}
 use native.Mathlib.Omega.{arith}
 use lib.ListN.{length}
-use lib.Ieee as Ieee
 use lib.Ieee.{Float}
 use Rattle.numbers.specs.Floats.{_⊕_}
 use Rattle.integrands.specs.Terms.{kindOf}
 use Rattle.integrands.specs.Values.{termValue}
-use Rattle.integrands.specs.Parts.{Point}
+use Rattle.integrands.specs.Parts.{ValueOfKind}
 use Rattle.integrands.specs.ValueFacts.{term-from}
 use Rattle.table.specs.Rows.{tableRow}
 use Rattle.integrands.specs.Columns.{table-reach, Added, added-none, added-turn}
@@ -21,7 +20,7 @@ abbrev Inv-loop : tie.InvT-loop
 Inv-loop entries₀ first x second y weight test trial rows test-table test-points p test-dim trial-table trial-points q trial-dim a0 a1 a2 e0 e1 e2 j₀ entries j =
     (j ≤ trial-dim)
     × (length entries ≡ 100)
-    × ((k : ℕ → Float) → Point (kindOf first) k test trial x → Point (kindOf second) k test trial y
+    × ((k : ℕ → Float) → ValueOfKind (kindOf first) k test trial x → ValueOfKind (kindOf second) k test trial y
     → Added test-dim j entries₀ entries (λ (i n : ℕ). weighed weight (termValue first k (tableRow test-table rows test-points p i) (tableRow trial-table rows trial-points q n) test trial ⊕ termValue second k (tableRow test-table rows test-points p i) (tableRow trial-table rows trial-points q n) test trial)))
 
 abbrev μ-loop : tie.MeasureT-loop

@@ -4,7 +4,6 @@ use Prim.Native.Nat.{ℕ, _*_, _-_, _≤_}
 use native.Mathlib.Omega.{arith}
 use lib.Ieee.{Float, nan}
 use Rattle.lists.specs.Maps.{Mapped, mapped-start, mapped-turn}
-use lib.Ieee as Ieee
 use Rattle.numbers.specs.Floats.{_⊕_, _!_}
 use Rattle.integrands.specs.Parts.{factored, fromSides}
 use Rattle.integrands.specs.Columns.{hundred-place}

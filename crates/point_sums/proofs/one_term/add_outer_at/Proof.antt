@@ -1,8 +1,8 @@
--- `point_sums::one_term::outer` meets its contract: each branch is the call below it, with the dims by their values. Assumes nothing.
+-- `point_sums::one_term::add_outer_at` meets its contract: each branch is the call below it, with the dims by their values. Assumes nothing.
 use Rattle.point_sums.specs.Facts.{both-are, added-at, table-at}
 use borrow.Author.Needs.{needs}
-use Rattle.point_sums.proofs.one_term.outer.Statement.{statement}
-use Rattle.point_sums.proofs.one_term.outer.Tie as tie
+use Rattle.point_sums.proofs.one_term.add_outer_at.Statement.{statement}
+use Rattle.point_sums.proofs.one_term.add_outer_at.Tie as tie
 
 add-outer-requires : tie.Need-add-outer-requires
 add-outer-requires c κs =
@@ -32,8 +32,8 @@ returns-2 c =
 returns-3 : tie.Need-returns-3
 returns-3 c = search needs
 
-pub outer-spec : {M : Type 1} → statement M
-outer-spec =
+pub add-outer-at-spec : {M : Type 1} → statement M
+add-outer-at-spec =
     tie.close
     (tie.spec
     add-outer-requires
