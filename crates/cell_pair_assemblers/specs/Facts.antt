@@ -161,7 +161,7 @@ module _ (f : Integrand) where
   touching-start a i j = sym (upto-none (λ (p : ℕ) (sum : Float). sum ⊕ touchingSummand f a i j p) 0·0)
 
   -- one point more, with its geometry, the width and the rows as the code has them
-  pub touching-more : (a : Touching) (i j q K D : ℕ) (g h : Geometry) {x : Float} → g ≡ geometryAt (a .testGeometry) q → h ≡ geometryAt (a .trialGeometry) q
+  touching-more : (a : Touching) (i j q K D : ℕ) (g h : Geometry) {x : Float} → g ≡ geometryAt (a .testGeometry) q → h ≡ geometryAt (a .trialGeometry) q
       → K ≡ kernelWidth f → D ≡ tableRows f
       → x ≡ pointValue f (λ d. a .kernel ! (d + K * q)) (tableRow (a .testTable) D (a .points) q i) (tableRow (a .trialTable) D (a .points) q j) g h
       → touchingSum a i j q ⊕ x ⊗ (a .weights ! q ⊗ (g .jdet ⊗ h .jdet)) ≡ touchingSum a i j (q + 1)
@@ -170,11 +170,12 @@ module _ (f : Integrand) where
       rw (e, eg, eh, ek, ed) (sym (upto-more (λ (p : ℕ) (sum : Float). sum ⊕ touchingSummand f a i j p) q 0·0))
 
   -- weighed once: a product times 1 is that product
-  pub touching-once : (a : Touching) (i j q K D : ℕ) (g h : Geometry) {x : Float} → g ≡ geometryAt (a .testGeometry) q → h ≡ geometryAt (a .trialGeometry) q → Alone f K D
+  pub touching-once : (a : Touching) (i j q K D : ℕ) (g h : Geometry) {x : Float} → g ≡ geometryAt (a .testGeometry) q → h ≡ geometryAt (a .trialGeometry) q
+      → K ≡ kernelWidth f → D ≡ tableRows f
       → x ≡ pointValue f (λ d. a .kernel ! (d + K * q)) (tableRow (a .testTable) D (a .points) q i) (tableRow (a .trialTable) D (a .points) q j) g h
       → touchingSum a i j q ⊕ x ⊗ (a .weights ! q ⊗ (g .jdet ⊗ h .jdet)) ⊗ 1·0 ≡ touchingSum a i j (q + 1)
-  touching-once a i j q K D g h {x} eg eh alone e =
-      ap (λ (y : Float). touchingSum a i j q ⊕ y) (product-one x (a .weights ! q ⊗ (g .jdet ⊗ h .jdet))) ∙ touching-more a i j q K D g h eg eh (alone .width) (alone .rows) e
+  touching-once a i j q K D g h {x} eg eh ek ed e =
+      ap (λ (y : Float). touchingSum a i j q ⊕ y) (product-one x (a .weights ! q ⊗ (g .jdet ⊗ h .jdet))) ∙ touching-more a i j q K D g h eg eh ek ed e
 
   pub touching-end : (a : Touching) (i j : ℕ) → touchingSum a i j (a .points) ≡ touchingEntry f a i j
   unfolding touchingSum touchingEntry

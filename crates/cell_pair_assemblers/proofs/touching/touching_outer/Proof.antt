@@ -50,14 +50,14 @@ returns c =
     let start = c .before .before .before .before .before .before .before .before .before .before .before .before .before .before .before .before in
     let both = both-are 3 (start .args .test-dim) (start .args .trial-dim) (c .before .before .if1 .taken) in
     held-added _ (start .pre .4) (added-at both (c .add-outer .ensures))
-    (λ i j l b. touching-once (start .args .f) (touching (start .args .points) (start .args .weights .now) (start .args .test-table .now) (start .args .trial-table .now) (start .args .kernel .now) (start .args .test-geometry .now) (start .args .trial-geometry .now)) i j (start .args .q) (start .args .width) (start .args .rows) (c .before .before .before .before .before .before .before .before .before .geometry-at .result) (c .before .before .before .before .before .before .before .before .geometry-at2 .result) (c .before .before .before .before .before .before .before .before .before .geometry-at .ensures) (c .before .before .before .before .before .before .before .before .geometry-at2 .ensures) (start .pre .1)
+    (λ i j l b. touching-once (start .args .f) (touching (start .args .points) (start .args .weights .now) (start .args .test-table .now) (start .args .trial-table .now) (start .args .kernel .now) (start .args .test-geometry .now) (start .args .trial-geometry .now)) i j (start .args .q) (start .args .width) (start .args .rows) (c .before .before .before .before .before .before .before .before .before .geometry-at .result) (c .before .before .before .before .before .before .before .before .geometry-at2 .result) (c .before .before .before .before .before .before .before .before .before .geometry-at .ensures) (c .before .before .before .before .before .before .before .before .geometry-at2 .ensures) (start .pre .1 .width) (start .pre .1 .rows)
     (outer-value (start .args .f) _ _ _ (c .before .before .before .before .before .before .before .before .before .geometry-at .result) (c .before .before .before .before .before .before .before .before .geometry-at2 .result) (start .pre .1) (c .before .before .before .before .kind-of .ensures) (c .before .before .before .kind-value .ensures) (start .pre .2)))
 
 returns-2 : tie.Need-returns-2
 returns-2 c =
     let start = c .before .before .before .before .before .before .before .before .before .before .before .before .before .before .before .before in
     held-added _ (start .pre .4) (c .add-outer2 .ensures)
-    (λ i j l b. touching-once (start .args .f) (touching (start .args .points) (start .args .weights .now) (start .args .test-table .now) (start .args .trial-table .now) (start .args .kernel .now) (start .args .test-geometry .now) (start .args .trial-geometry .now)) i j (start .args .q) (start .args .width) (start .args .rows) (c .before .before .before .before .before .before .before .before .before .geometry-at .result) (c .before .before .before .before .before .before .before .before .geometry-at2 .result) (c .before .before .before .before .before .before .before .before .before .geometry-at .ensures) (c .before .before .before .before .before .before .before .before .geometry-at2 .ensures) (start .pre .1)
+    (λ i j l b. touching-once (start .args .f) (touching (start .args .points) (start .args .weights .now) (start .args .test-table .now) (start .args .trial-table .now) (start .args .kernel .now) (start .args .test-geometry .now) (start .args .trial-geometry .now)) i j (start .args .q) (start .args .width) (start .args .rows) (c .before .before .before .before .before .before .before .before .before .geometry-at .result) (c .before .before .before .before .before .before .before .before .geometry-at2 .result) (c .before .before .before .before .before .before .before .before .before .geometry-at .ensures) (c .before .before .before .before .before .before .before .before .geometry-at2 .ensures) (start .pre .1 .width) (start .pre .1 .rows)
     (outer-value (start .args .f) _ _ _ (c .before .before .before .before .before .before .before .before .before .geometry-at .result) (c .before .before .before .before .before .before .before .before .geometry-at2 .result) (start .pre .1) (c .before .before .before .before .kind-of .ensures) (c .before .before .before .kind-value .ensures) (start .pre .2)))
 
 pub touching-outer-spec : {M : Type 1} → statement M

@@ -1,9 +1,8 @@
 -- `point_sums::two_terms::add_terms` meets its contract: where neither term has curls, each is its c times t·r. Assumes nothing.
 use mathlib.Core.Bool.{Bool, true, false, _||_}
-use mathlib.Core.Path.{_≡_, refl, _∙_, ap, ap₂}
+use mathlib.Core.Path.{_≡_, refl, ap}
 use Rattle.lists.specs.Bool.{true≢false}
-use Rattle.numbers.specs.Floats.{_⊕_}
-use Rattle.integrands.specs.ValueFacts.{term-outer, two-terms, second-is-read, curls-rows}
+use Rattle.integrands.specs.ValueFacts.{two-terms, two-outer-values, second-is-read, curls-rows}
 use Rattle.integrands.specs.Columns.{first-reads, second-reads, first-rows, second-rows}
 use Rattle.point_sums.specs.Weights.{weighed}
 use Rattle.point_sums.specs.Facts.{added-as, both-are, added-at, table-at}
@@ -54,20 +53,14 @@ returns-2 c =
     let start = c .before .before .before .before .before .before .before .before .before .before .before .before .before in
     let outer = neither (c .before .before .before .before .before .before .before .before .kind-value .result .curls) (c .before .before .before .before .before .before .kind-value2 .result .curls) (c .before .before .before .if1 .left) in
     added-as (added-at (both-are 3 (start .args .test-dim) (start .args .trial-dim) (c .before .before .if2 .taken)) (c .add-outers-3 .ensures))
-    (λ i j. ap (weighed (start .args .weight)) (ap₂ _⊕_
-    (term-outer (start .args .f .first) _ _ _ (start .args .test) (start .args .trial) (rw (c .before .before .before .before .before .before .before .before .before .kind-of .ensures) at (c .before .before .before .before .before .before .before .before .kind-value .ensures)) (outer .0))
-    (term-outer (start .args .f .second) _ _ _ (start .args .test) (start .args .trial) (rw (c .before .before .before .before .before .before .before .kind-of2 .ensures) at (c .before .before .before .before .before .before .kind-value2 .ensures)) (outer .1))
-    ∙ two-terms (start .args .f) _ _ _ (start .args .test) (start .args .trial) (start .pre .6)))
+    (λ i j. ap (weighed (start .args .weight)) (two-outer-values (start .args .f) _ _ _ (start .args .test) (start .args .trial) (start .pre .6) (rw (c .before .before .before .before .before .before .before .before .before .kind-of .ensures) at (c .before .before .before .before .before .before .before .before .kind-value .ensures)) (rw (c .before .before .before .before .before .before .before .kind-of2 .ensures) at (c .before .before .before .before .before .before .kind-value2 .ensures)) outer))
 
 returns-3 : tie.Need-returns-3
 returns-3 c =
     let start = c .before .before .before .before .before .before .before .before .before .before .before .before .before in
     let outer = neither (c .before .before .before .before .before .before .before .before .kind-value .result .curls) (c .before .before .before .before .before .before .kind-value2 .result .curls) (c .before .before .before .if1 .left) in
     added-as (c .add-outers .ensures)
-    (λ i j. ap (weighed (start .args .weight)) (ap₂ _⊕_
-    (term-outer (start .args .f .first) _ _ _ (start .args .test) (start .args .trial) (rw (c .before .before .before .before .before .before .before .before .before .kind-of .ensures) at (c .before .before .before .before .before .before .before .before .kind-value .ensures)) (outer .0))
-    (term-outer (start .args .f .second) _ _ _ (start .args .test) (start .args .trial) (rw (c .before .before .before .before .before .before .before .kind-of2 .ensures) at (c .before .before .before .before .before .before .kind-value2 .ensures)) (outer .1))
-    ∙ two-terms (start .args .f) _ _ _ (start .args .test) (start .args .trial) (start .pre .6)))
+    (λ i j. ap (weighed (start .args .weight)) (two-outer-values (start .args .f) _ _ _ (start .args .test) (start .args .trial) (start .pre .6) (rw (c .before .before .before .before .before .before .before .before .before .kind-of .ensures) at (c .before .before .before .before .before .before .before .before .kind-value .ensures)) (rw (c .before .before .before .before .before .before .before .kind-of2 .ensures) at (c .before .before .before .before .before .before .kind-value2 .ensures)) outer))
 
 pub add-terms-spec : {M : Type 1} → statement M
 add-terms-spec =
