@@ -3,13 +3,8 @@ use Prim.Native.Nat.{ℕ, zero, suc}
 use mathlib.Core.Bool.{Bool}
 use Rattle.lists.specs.Refusals.{refusal}
 use Rattle.work_records.specs.declared.WorkRecord.{WorkRecord}
-use Rattle.plans.specs.Planning as Plans
-use Rattle.plans.specs.Planning.{ready, refused}
 use Rattle.runs.specs.Runs as Runs
 use Rattle.runs.specs.Runs.{Plan, Reply, found, accepted, recordOf, stateChecks}
-use Rattle.boundary_assemblers.specs.declared.PlanNumbers.{PlanNumbers}
-use Rattle.boundary_assemblers.specs.declared.Planned.{Planned}
-use Rattle.boundary_assemblers.specs.declared.Planned.the-variants.{Ready, Refused as PlanRefused}
 use Rattle.boundary_assemblers.specs.declared.Run.{Run}
 use Rattle.boundary_assemblers.specs.declared.Looked.{Looked}
 use Rattle.boundary_assemblers.specs.declared.Looked.the-variants.{Found, Refused as LookRefused}
@@ -18,28 +13,8 @@ use Rattle.boundary_assemblers.specs.declared.Added.the-variants.{Accept
 use Rattle.boundary_assemblers.specs.declared.Checked.{Checked}
 use Rattle.boundary_assemblers.specs.declared.Checked.the-variants.{Passed, Refused as CheckRefused}
 
-abbrev pub numbersOf : PlanNumbers → Plans.PlanNumbers
-numbersOf n =
-    record {
-      cells = n .cells;
-      vertices = n .vertices;
-      edges = n .edges;
-      touching = n .touching;
-      distant = n .distant;
-      rows = n .rows;
-      columns = n .columns;
-      test = n .test;
-      trial = n .trial;
-      integrand = n .integrand;
-    }
-
--- what planning answers
-abbrev pub plannedOf : Planned → Plans.Planned
-plannedOf (Ready n) = ready (numbersOf n)
-plannedOf (PlanRefused v) = refused v
-
 abbrev pub runOf : Run → Runs.Run
-runOf r = record { numbers = numbersOf (r .numbers); entries = r .entries; position = r .position }
+runOf r = record { numbers = r .numbers; entries = r .entries; position = r .position }
 
 -- what look hands back
 abbrev pub lookedOf : Looked → Reply

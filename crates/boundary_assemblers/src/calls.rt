@@ -1,7 +1,6 @@
 // The checks that every call of a run makes, and look.
 use crate::Checked;
 use crate::Looked;
-use crate::PlanNumbers;
 use crate::Run;
 use function::dims_right;
 use grid::MOST_CELLS;
@@ -10,6 +9,7 @@ use grid::MOST_VERTICES;
 use integrands::integrand_right;
 use numbers::all_below;
 use numbers::wide;
+use plans::PlanNumbers;
 use work_records::DISTANT;
 use work_records::NO_PATTERN;
 use work_records::WIDTH;
@@ -20,32 +20,8 @@ ghost use mathlib.Core.Bool.{true};
 ghost use Prim.Native.Nat.{_+_, _*_, _≤_};
 ghost use lib.ListN.{length};
 ghost use Rattle.runs.specs.Runs.{begin, beginEntries, cellDofs, rangesRight, placesRight, planRight, look, planOf};
-ghost use Rattle.boundary_assemblers.specs.Forms.{numbersOf, runOf, lookedOf, stateChecked};
+ghost use Rattle.boundary_assemblers.specs.Forms.{runOf, lookedOf, stateChecked};
 ghost use Rattle.boundary_assemblers.specs.RunFacts.{Lengths, rightAt};
-
-impl PlanNumbers {
-    // A dense run starts at 0.
-    pub fn begin(self) -> Run
-        ensures { λ r. ⌜ runOf r ≡ begin (numbersOf self) ⌝ }
-    {
-        Run {
-            numbers: self,
-            entries: false,
-            position: 0,
-        }
-    }
-
-    // An entries run starts at N.
-    pub fn begin_entries(self) -> Run
-        ensures { λ r. ⌜ runOf r ≡ beginEntries (numbersOf self) ⌝ }
-    {
-        Run {
-            numbers: self,
-            entries: true,
-            position: self.distant,
-        }
-    }
-}
 
 // The DOFs of a cell.
 pub(crate) fn cell_dofs(dofs: &[u32], dim: usize, cell: usize) -> &[u32]
@@ -58,6 +34,28 @@ pub(crate) fn cell_dofs(dofs: &[u32], dim: usize, cell: usize) -> &[u32]
 }
 
 impl Run {
+    // A dense run starts at 0.
+    pub fn begin(numbers: PlanNumbers) -> Run
+        ensures { λ r. ⌜ runOf r ≡ begin numbers ⌝ }
+    {
+        Run {
+            numbers: numbers,
+            entries: false,
+            position: 0,
+        }
+    }
+
+    // An entries run starts at N.
+    pub fn begin_entries(numbers: PlanNumbers) -> Run
+        ensures { λ r. ⌜ runOf r ≡ beginEntries numbers ⌝ }
+    {
+        Run {
+            numbers: numbers,
+            entries: true,
+            position: numbers.distant,
+        }
+    }
+
     // 21: the run's numbers are in their ranges.
     pub(crate) fn ranges_right(self) -> bool
         ensures { λ r. ⌜ r ≡ rangesRight (runOf self) ⌝ }

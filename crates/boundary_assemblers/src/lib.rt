@@ -1,31 +1,10 @@
-// The run: what planning hands back, from which a run begins, and its calls.
+// The run, begun from what planning hands back, and its calls.
 mod adds;
 mod calls;
 mod entries;
 
-use function::Element;
-use integrands::Integrand;
+use plans::PlanNumbers;
 use work_records::WorkRecord;
-
-// The numbers that planning hands back: the sizes C, V and E of the mesh, S (touching pairs), N (distant pairs), the DOF counts (rows for test, columns
-// for trial), the elements and the integrand. (The plan itself is the two DOF lists and the work list, which are lent.)
-pub struct PlanNumbers {
-    pub cells: u32,
-    pub vertices: u32,
-    pub edges: u32,
-    pub touching: u32,
-    pub distant: u32,
-    pub rows: u32,
-    pub columns: u32,
-    pub test: Element,
-    pub trial: Element,
-    pub integrand: Integrand,
-}
-
-pub enum Planned {
-    Ready(PlanNumbers),
-    Refused(u32),
-}
 
 // A run: the numbers of the planning that it was begun from, whether it is an entries run, and its position p.
 pub struct Run {

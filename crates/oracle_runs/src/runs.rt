@@ -4,9 +4,9 @@ use crate::lent::length_at;
 use crate::lent::lent;
 use boundary_assemblers::Added;
 use boundary_assemblers::Looked;
-use boundary_assemblers::PlanNumbers;
 use boundary_assemblers::Run;
 use numbers::wide;
+use plans::PlanNumbers;
 use recorded::same_floats;
 use recorded::same_numbers;
 
@@ -33,7 +33,7 @@ pub fn entries_agree(
     columns: &mut [u32],
     values: &mut [f64],
 ) -> bool {
-    let mut run = n.begin_entries();
+    let mut run = Run::begin_entries(n);
     for k in 0..wide(n.touching) {
         run = after(run.add_entries(
             test_dofs,
@@ -121,7 +121,7 @@ pub fn matrix_agrees(
     matrix: &mut [f64],
 ) -> bool {
     let records = length_at(lengths, 7) / 8;
-    let mut run = n.begin();
+    let mut run = Run::begin(n);
     for k in 0..records {
         run = add_next(
             run,

@@ -1,6 +1,4 @@
 // One call of plan on lists filled with a mark, and what is printed of it.
-use boundary_assemblers::PlanNumbers;
-use boundary_assemblers::Planned;
 use function::Element;
 use grid::Sizes;
 use integrands::Integrand;
@@ -8,6 +6,8 @@ use integrands::Term;
 use libc::STDOUT_FILENO;
 use planning::Assembly;
 use planning::plan;
+use plans::PlanNumbers;
+use plans::Planned;
 
 // What each place of the lists holds before the call.
 const MARK: u32 = 77;

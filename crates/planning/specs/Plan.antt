@@ -20,7 +20,9 @@ use Rattle.work_records.specs.Records.{flat}
 use Rattle.cell_pairs.specs.WorkList.{mostBatch, distantPart, touchingPair, touchingPart, workList, sharingPairs, distantPairs}
 use Rattle.pair_counts.specs.Counting.{Countable, split}
 use Rattle.touching_pairs.specs.Visits.{bare, Touchable}
-use Rattle.plans.specs.Planning.{PlanNumbers, ready, refused, listsOf, planRefusal, plan, planAnswer, planLists, unlessRefused, Planning, Lists, spaceOn, testSpace, trialSpace, batchRight, lengthsRight, planNumbers, writtenLists}
+use Rattle.plans.specs.declared.PlanNumbers.{PlanNumbers}
+use Rattle.plans.specs.declared.Planned.the-variants.{Ready as ready, Refused as refused}
+use Rattle.plans.specs.Planning.{listsOf, planRefusal, plan, planAnswer, planLists, unlessRefused, Planning, Lists, spaceOn, testSpace, trialSpace, batchRight, lengthsRight, planNumbers, writtenLists}
 use Rattle.plans.specs.Accepted.{Accepted, counted, mesh-fine}
 use Rattle.planning.specs.Facts.{dims-small}
 use Rattle.planning.specs.Work.{Ready as WorkReady, Written}

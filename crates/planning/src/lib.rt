@@ -2,8 +2,6 @@
 mod checks;
 mod work_list;
 
-use boundary_assemblers::PlanNumbers;
-use boundary_assemblers::Planned;
 use checks::plan_refusal;
 use function::Element;
 use function::assign_dofs;
@@ -11,10 +9,11 @@ use function::cell_colouring;
 use grid::Sizes;
 use integrands::Integrand;
 use numbers::wide;
+use plans::PlanNumbers;
+use plans::Planned;
 use work_list::write_work;
 ghost use mathlib.Core.Path.{_≡_};
 ghost use Rattle.plans.specs.Planning.{plan, planNumbers, planLists, writtenLists};
-ghost use Rattle.boundary_assemblers.specs.Forms.{numbersOf, plannedOf};
 ghost use Rattle.plans.specs.Accepted.{Accepted};
 ghost use Rattle.plans.specs.Planning.{listsOf};
 ghost use Rattle.grid.specs.Mesh.{meshOf};
@@ -44,7 +43,7 @@ fn write_plan(
 ) -> PlanNumbers
     requires { ⌜ Accepted (planningWith (meshOf sizes (now «cell_vertices») (now «cell_edges»)) assembly)
         (listsOf (now «test_dofs») (now «trial_dofs») (now «test_colours») (now «trial_colours») (now «test_owners») (now «trial_owners») (now work)) ⌝ }
-    ensures { λ r. ⌜ numbersOf r ≡ planNumbers (planningWith (meshOf sizes (now («cell_vertices» .entry)) (now («cell_edges» .entry))) assembly) ⌝ }
+    ensures { λ r. ⌜ r ≡ planNumbers (planningWith (meshOf sizes (now («cell_vertices» .entry)) (now («cell_edges» .entry))) assembly) ⌝ }
     ensures { λ _. ⌜ listsOf (now («test_dofs» .exit)) (now («trial_dofs» .exit)) (now («test_colours» .exit)) (now («trial_colours» .exit)) (now («test_owners» .exit)) (now («trial_owners» .exit)) (now (work .exit))
         ≡ writtenLists (planningWith (meshOf sizes (now («cell_vertices» .entry)) (now («cell_edges» .entry))) assembly)
         (listsOf (now («test_dofs» .entry)) (now («trial_dofs» .entry)) (now («test_colours» .entry)) (now («trial_colours» .entry)) (now («test_owners» .entry)) (now («trial_owners» .entry)) (now (work .entry))) ⌝ }
@@ -105,7 +104,7 @@ pub fn plan(
     trial_owners: &mut [u32],
     work: &mut [u32],
 ) -> Planned
-    ensures { λ r. ⌜ plannedOf r ≡ plan (planningWith (meshOf sizes (now («cell_vertices» .entry)) (now («cell_edges» .entry))) assembly)
+    ensures { λ r. ⌜ r ≡ plan (planningWith (meshOf sizes (now («cell_vertices» .entry)) (now («cell_edges» .entry))) assembly)
         (listsOf (now («test_dofs» .entry)) (now («trial_dofs» .entry)) (now («test_colours» .entry)) (now («trial_colours» .entry)) (now («test_owners» .entry)) (now («trial_owners» .entry)) (now (work .entry))) ⌝ }
     ensures { λ _. ⌜ listsOf (now («test_dofs» .exit)) (now («trial_dofs» .exit)) (now («test_colours» .exit)) (now («trial_colours» .exit)) (now («test_owners» .exit)) (now («trial_owners» .exit)) (now (work .exit))
         ≡ planLists (planningWith (meshOf sizes (now («cell_vertices» .entry)) (now («cell_edges» .entry))) assembly)

@@ -14,7 +14,9 @@ use Rattle.function.specs.ColoursPromises.{colours-long}
 use Rattle.integrands.specs.Terms.{integrandRight}
 use Rattle.cell_pairs.specs.Patterns.{patternsRight}
 use Rattle.pair_counts.specs.Counting.{Countable, countable}
-use Rattle.plans.specs.Planning.{Planning, Lists, PlanNumbers, ready, batchRight, lengthsRight, planChecks, planRefusal, planNumbers, planAnswer, plan, testSpace, trialSpace}
+use Rattle.plans.specs.declared.PlanNumbers.{PlanNumbers}
+use Rattle.plans.specs.declared.Planned.the-variants.{Ready as ready}
+use Rattle.plans.specs.Planning.{Planning, Lists, batchRight, lengthsRight, planChecks, planRefusal, planNumbers, planAnswer, plan, testSpace, trialSpace}
 
 pub record Accepted (x : Planning) (l : Lists) : Type 0 where
   pub cells : cellsRight (x .mesh) ≡ true

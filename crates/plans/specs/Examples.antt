@@ -10,7 +10,10 @@ use Rattle.integrands.specs.declared.Term.the-variants.{Bare}
 use Rattle.integrands.specs.Examples.{opened-integrands}
 use Rattle.work_records.specs.Records.{rec, flat}
 use Rattle.cell_pairs.specs.Examples.{opened-cell-pairs}
-use Rattle.plans.specs.Planning.{Planning, Lists, listsOf, PlanNumbers, Planned, ready, refused, listsFor, batchRight, lengthsRight, planRefusal, planNumbers, plan, plannedNumber, writtenLists, planLists}
+use Rattle.plans.specs.declared.PlanNumbers.{PlanNumbers}
+use Rattle.plans.specs.declared.Planned.{Planned}
+use Rattle.plans.specs.declared.Planned.the-variants.{Ready as ready, Refused as refused}
+use Rattle.plans.specs.Planning.{Planning, Lists, listsOf, listsFor, batchRight, lengthsRight, planRefusal, planNumbers, plan, plannedNumber, writtenLists, planLists}
 
 -- opens the definitions of this crate and of those below it
 unfoldable pub opened-plans : Unit {0}

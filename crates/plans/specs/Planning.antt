@@ -18,6 +18,9 @@ use Rattle.work_records.specs.declared.WorkRecord.{WorkRecord}
 use Rattle.work_records.specs.Records.{width, flat}
 use Rattle.cell_pairs.specs.Patterns.{patternsRight}
 use Rattle.cell_pairs.specs.WorkList.{mostBatch, workList, sharingPairs, distantPairs}
+use Rattle.plans.specs.declared.PlanNumbers.{PlanNumbers}
+use Rattle.plans.specs.declared.Planned.{Planned}
+use Rattle.plans.specs.declared.Planned.the-variants.{Ready as ready, Refused as refused}
 
 -- What planning is given
 pub record Planning : Type 0 where
@@ -36,24 +39,6 @@ pub record Lists : Type 0 where
   pub testOwners : List ℕ
   pub trialOwners : List ℕ
   pub work : List ℕ
-
--- The numbers that it hands back: S, N, the DOF counts (rows for test, columns for trial), sizes, elements and integrand
-pub record PlanNumbers : Type 0 where
-  pub cells : ℕ
-  pub vertices : ℕ
-  pub edges : ℕ
-  pub touching : ℕ
-  pub distant : ℕ
-  pub rows : ℕ
-  pub columns : ℕ
-  pub test : Element
-  pub trial : Element
-  pub integrand : Integrand
-
--- What planning answers: its numbers, or a refusal's number
-pub data Planned : Type 0 where
-  ready : PlanNumbers → Planned
-  refused : ℕ → Planned
 
 -- from the arguments of a call
 abbrev pub planningOf : Mesh → Element → Element → ℕ → Integrand → Planning

@@ -21,7 +21,9 @@ use Rattle.cell_pairs.specs.WorkList.{sharingPairs, distantPairs}
 use Rattle.pair_counts.specs.WorkRecords.{ofPair, Distant, Touching}
 use Rattle.pair_counts.specs.Counting.{once, split, length-work, record-distant, record-touching}
 use Rattle.grid.specs.Mesh.{Mesh}
-use Rattle.plans.specs.Planning.{Planning, Lists, PlanNumbers, ready, refused, planRefusal, planAnswer, unlessRefused, spaceOn, testSpace, trialSpace, workRecords, planNumbers, plan, planLists, writtenLists}
+use Rattle.plans.specs.declared.PlanNumbers.{PlanNumbers}
+use Rattle.plans.specs.declared.Planned.the-variants.{Ready as ready, Refused as refused}
+use Rattle.plans.specs.Planning.{Planning, Lists, planRefusal, planAnswer, unlessRefused, spaceOn, testSpace, trialSpace, workRecords, planNumbers, plan, planLists, writtenLists}
 use Rattle.plans.specs.Accepted.{Accepted, accepted, counted, mesh-fine, ready-is}
 
 -- ---- the work list, of which the first N records are distant

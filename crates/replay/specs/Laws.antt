@@ -15,7 +15,9 @@ use Rattle.lists.specs.Fold.{over, over-snoc, listOf}
 use Rattle.lists.specs.Range.{flatMap-append, flatMap-one}
 use Rattle.lists.specs.Stores.{sets-append, sets-front}
 use Rattle.lent_numbers.specs.Lent.{touching, distant}
-use Rattle.plans.specs.Planning.{Planning, Lists, PlanNumbers, ready, refused as not-planned, plan, planNumbers, planAnswer, planRefusal, planLists, unlessRefused}
+use Rattle.plans.specs.declared.PlanNumbers.{PlanNumbers}
+use Rattle.plans.specs.declared.Planned.the-variants.{Ready as ready, Refused as not-planned}
+use Rattle.plans.specs.Planning.{Planning, Lists, plan, planNumbers, planAnswer, planRefusal, planLists, unlessRefused}
 use Rattle.plans.specs.Accepted.{ready-is}
 use Rattle.runs.specs.Runs.{Run, Plan, EntryLists, Reply, Answer, found, accepted, refused, begun, look, addDistant, addTouching, addEntries, distantMatrix, touchingMatrix, entriesWritten}
 use Rattle.runs.specs.Calls.{Call, looks, addsDistant, addsTouching, addsEntries, Progress, replyTo, matrixAfter, listsAfter, call, callAll}

@@ -4,7 +4,9 @@ use mathlib.Core.Path.{_≡_, refl}
 use mathlib.Core.Bool.{Bool, true, false}
 use mathlib.Core.List.{List}
 use lib.Ieee.{Float}
-use Rattle.plans.specs.Planning.{Planning, Lists, PlanNumbers, ready, plan}
+use Rattle.plans.specs.declared.PlanNumbers.{PlanNumbers}
+use Rattle.plans.specs.declared.Planned.the-variants.{Ready as ready}
+use Rattle.plans.specs.Planning.{Planning, Lists, plan}
 use Rattle.plans.specs.Accepted.{ready-is}
 use Rattle.runs.specs.Runs.{EntryLists}
 use Rattle.runs.specs.Calls.{Call, Progress}

@@ -1,12 +1,12 @@
 // Plays a whole list of calls on one run, begun from planning. The calls are encoded as numbers, and their lent lists are parts of one pool.
 use boundary_assemblers::Added;
 use boundary_assemblers::Looked;
-use boundary_assemblers::PlanNumbers;
-use boundary_assemblers::Planned;
 use boundary_assemblers::Run;
 use grid::Sizes;
 use planning::Assembly;
 use planning::plan;
+use plans::PlanNumbers;
+use plans::Planned;
 ghost use mathlib.Core.Path.{_≡_};
 ghost use mathlib.Core.List.{[], _∷_};
 ghost use Prim.Native.Nat.{_+_, _*_, _≤_, _<_};
@@ -16,7 +16,7 @@ ghost use Rattle.grid.specs.Mesh.{meshOf};
 ghost use Rattle.plans.specs.Planning.{listsOf, planLists};
 ghost use Rattle.planning.specs.Arguments.{planningWith};
 ghost use Rattle.runs.specs.Runs.{planOf, entryLists, begun, addDistant, distantMatrix, addTouching, touchingMatrix, addEntries, entriesWritten};
-ghost use Rattle.boundary_assemblers.specs.Forms.{numbersOf, runOf, lookedOf, addedOf};
+ghost use Rattle.boundary_assemblers.specs.Forms.{runOf, lookedOf, addedOf};
 ghost use Rattle.replay.specs.Encoding.{partOf, listIn, distantIn, touchingIn, callOf, callsOf, callCount, answerNumbers};
 ghost use Rattle.replay.specs.Replay.{outcomeOf, replayed, replayedMatrix, replayedLists, replayedAnswers};
 ghost use Rattle.replay.specs.Laws.{standing, Stepped, Going};
@@ -300,12 +300,12 @@ fn call_count(calls: &[usize], answers: &[u32]) -> usize
 
 // A run of either kind.
 fn begin_run(numbers: PlanNumbers, entries: bool) -> Run
-    ensures { λ r. ⌜ runOf r ≡ begun entries (numbersOf numbers) ⌝ }
+    ensures { λ r. ⌜ runOf r ≡ begun entries numbers ⌝ }
 {
     if entries {
-        return numbers.begin_entries();
+        return Run::begin_entries(numbers);
     }
-    numbers.begin()
+    Run::begin(numbers)
 }
 
 // Plans, begins a run, of entries or dense, and plays the calls on it, as many as there is room to answer; plays nothing where planning refuses.

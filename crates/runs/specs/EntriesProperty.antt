@@ -10,7 +10,9 @@ use lib.Ieee.{Float}
 use Rattle.lent_numbers.specs.Lent.{Touching}
 use Rattle.work_records.specs.Records.{rec}
 use Rattle.cell_pairs.specs.WorkList.{touchingPart, distantPairs}
-use Rattle.plans.specs.Planning.{Planning, Lists, PlanNumbers, ready, plan, planLists, workRecords}
+use Rattle.plans.specs.declared.PlanNumbers.{PlanNumbers}
+use Rattle.plans.specs.declared.Planned.the-variants.{Ready as ready}
+use Rattle.plans.specs.Planning.{Planning, Lists, plan, planLists, workRecords}
 use Rattle.plans.specs.Accepted.{Accepted, accepted, ready-is}
 use Rattle.runs.specs.Runs.{EntryLists, entryLists, found, refused, beginEntries}
 use Rattle.runs.specs.Calls.{Call, looks, addsEntries, Progress, callAll}

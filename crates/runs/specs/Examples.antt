@@ -11,7 +11,7 @@ use Rattle.integrands.specs.Examples.{1·}
 use Rattle.lent_numbers.specs.Lent.{Touching, touching, Distant, distant}
 use Rattle.lent_numbers.specs.Examples.{opened-lent-numbers}
 use Rattle.work_records.specs.Records.{rec, recordAt}
-use Rattle.plans.specs.Planning.{PlanNumbers}
+use Rattle.plans.specs.declared.PlanNumbers.{PlanNumbers}
 use Rattle.runs.specs.Runs.{Run, Plan, planOf, Answer, found, accepted, refused, cellDofs, rangesRight, placesRight, planRight, matrixRight, pairLeft, recordKnown, recordRight, lookRefusal, distantRefusal, touchingRefusal, look, addDistant, addTouching}
 
 -- opens the definitions that the calls cite

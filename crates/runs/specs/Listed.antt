@@ -13,7 +13,9 @@ use Rattle.work_records.specs.Records.{rec, patternCount, distantPattern}
 use Rattle.cell_pairs.specs.WorkList.{distantPairs}
 use Rattle.pair_counts.specs.WorkRecords.{Distant, Touching}
 use Rattle.pair_counts.specs.Counting.{length-work, record-distant, record-touching, records-right}
-use Rattle.plans.specs.Planning.{Planning, Lists, PlanNumbers, ready, plan, planRefusal, planLists, writtenLists, workRecords}
+use Rattle.plans.specs.declared.PlanNumbers.{PlanNumbers}
+use Rattle.plans.specs.declared.Planned.the-variants.{Ready as ready}
+use Rattle.plans.specs.Planning.{Planning, Lists, plan, planRefusal, planLists, writtenLists, workRecords}
 use Rattle.plans.specs.Accepted.{Accepted, accepted, counted, ready-is}
 use Rattle.runs.specs.Runs.{Plan, planOf, EntryLists, isTouching, isDistant, begun}
 use Rattle.runs.specs.Calls.{Call, callAll}

@@ -18,7 +18,8 @@ use Rattle.lent_numbers.specs.Entries.{touchingEntry, distantEntry}
 use Rattle.scatter.specs.Adding.{addLocal, localRows, localColumns, localValues}
 use Rattle.work_records.specs.declared.WorkRecord.{WorkRecord}
 use Rattle.work_records.specs.Records.{patternCount, distantPattern, width, recordAt}
-use Rattle.plans.specs.Planning.{PlanNumbers, unlessRefused}
+use Rattle.plans.specs.declared.PlanNumbers.{PlanNumbers}
+use Rattle.plans.specs.Planning.{unlessRefused}
 
 -- A run: the numbers of the planning that it was begun from, whether it is an entries run, and its position p
 pub record Run : Type 0 where

@@ -14,7 +14,9 @@ use Rattle.lists.specs.Total.{count}
 use Rattle.work_records.specs.Records.{rec}
 use Rattle.pair_counts.specs.WorkRecords.{ofPair}
 use Rattle.pair_counts.specs.Counting.{once, length-work}
-use Rattle.plans.specs.Planning.{Planning, Lists, PlanNumbers, ready, plan, planLists, workRecords}
+use Rattle.plans.specs.declared.PlanNumbers.{PlanNumbers}
+use Rattle.plans.specs.declared.Planned.the-variants.{Ready as ready}
+use Rattle.plans.specs.Planning.{Planning, Lists, plan, planLists, workRecords}
 use Rattle.plans.specs.Accepted.{Accepted, accepted, counted, ready-is}
 use Rattle.runs.specs.Runs.{EntryLists, found, refused, begin}
 use Rattle.runs.specs.Calls.{Call, looks, Progress, callAll}

@@ -8,7 +8,9 @@ use Rattle.integrands.specs.declared.Term.{Term}
 use Rattle.integrands.specs.declared.Term.the-variants.{Bare, Scaled}
 use Rattle.integrands.specs.declared.Integrand.{Integrand}
 use Rattle.work_records.specs.declared.WorkRecord.{WorkRecord}
-use Rattle.plans.specs.Planning.{PlanNumbers, Planned, ready, refused as not-planned}
+use Rattle.plans.specs.declared.PlanNumbers.{PlanNumbers}
+use Rattle.plans.specs.declared.Planned.{Planned}
+use Rattle.plans.specs.declared.Planned.the-variants.{Ready as ready, Refused as not-planned}
 use Rattle.runs.specs.Runs.{Run, Reply, Answer, found, accepted, refused}
 use Rattle.seivalto.specs.declared.CElement.{CElement}
 use Rattle.seivalto.specs.declared.CTerm.{CTerm}

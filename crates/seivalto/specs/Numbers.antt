@@ -7,7 +7,8 @@ use lib.Dec.{eqb}
 use lib.Ieee.{Float}
 use Rattle.lists.specs.Bool.{_and_, _or_, and-left, and-right}
 use Rattle.lists.specs.Refusals.{Check, refusal, unless}
-use Rattle.plans.specs.Planning.{Planning, Lists, PlanNumbers, planChecks, planRefusal, planAnswer, plan, planNumbers}
+use Rattle.plans.specs.declared.PlanNumbers.{PlanNumbers}
+use Rattle.plans.specs.Planning.{Planning, Lists, planChecks, planRefusal, planAnswer, plan, planNumbers}
 use Rattle.runs.specs.Runs.{Run, Plan, EntryLists, found, accepted, reply, recordOf, advance, lookRefusal, distantRefusal, touchingRefusal, entriesRefusal, look, addDistant, addTouching, addEntries}
 use Rattle.work_records.specs.declared.WorkRecord.{WorkRecord}
 use Rattle.lent_numbers.specs.Lent.{Touching, Distant}

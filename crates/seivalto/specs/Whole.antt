@@ -7,7 +7,8 @@ use mathlib.Core.List.{List, [], _∷_, _++_}
 use lib.Ieee.{Float}
 use Rattle.lists.specs.Fold.{over-agree}
 use Rattle.grid.specs.Mesh.{Mesh}
-use Rattle.plans.specs.Planning.{Planning, Lists, planningOf, ready, planRefusal, planAnswer, plan, planNumbers, planLists}
+use Rattle.plans.specs.declared.Planned.the-variants.{Ready as ready}
+use Rattle.plans.specs.Planning.{Planning, Lists, planningOf, planRefusal, planAnswer, plan, planNumbers, planLists}
 use Rattle.plans.specs.Promises.{Promised, promised}
 use Rattle.runs.specs.Runs.{Run, Plan, EntryLists, Answer, begin, beginEntries, recordOf, lookRefusal, distantRefusal, touchingRefusal, entriesRefusal, look, addDistant, addTouching, addEntries}
 use Rattle.runs.specs.Calls.{Call, looks, addsDistant, addsTouching, addsEntries, Progress, replyTo, matrixAfter, listsAfter, call, callAll}

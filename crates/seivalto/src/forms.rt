@@ -10,12 +10,12 @@ use crate::CRun;
 use crate::CTerm;
 use boundary_assemblers::Added;
 use boundary_assemblers::Looked;
-use boundary_assemblers::PlanNumbers;
-use boundary_assemblers::Planned;
 use boundary_assemblers::Run;
 use function::Element;
 use integrands::Integrand;
 use integrands::Term;
+use plans::PlanNumbers;
+use plans::Planned;
 use work_records::WorkRecord;
 ghost use mathlib.Core.Path.{_≡_};
 ghost use Rattle.boundary_assemblers.specs.Forms as Inner;
@@ -56,7 +56,7 @@ pub(crate) fn integrand_of(f: CIntegrand) -> Integrand
 }
 
 pub(crate) fn numbers_of(n: CNumbers) -> PlanNumbers
-    ensures { λ r. ⌜ Inner.numbersOf r ≡ numbersOf n ⌝ }
+    ensures { λ r. ⌜ r ≡ numbersOf n ⌝ }
 {
     let test = element_of(n.test);
     let trial = element_of(n.trial);
@@ -91,7 +91,7 @@ pub(crate) fn run_of(c: CRun) -> Run
 
 // Planning's numbers, with the elements and the integrand that the host gave.
 fn c_numbers(test: CElement, trial: CElement, f: CIntegrand, n: PlanNumbers) -> CNumbers
-    ensures { λ r. ⌜ r ≡ cNumbers test trial f (Inner.numbersOf n) ⌝ }
+    ensures { λ r. ⌜ r ≡ cNumbers test trial f n ⌝ }
 {
     CNumbers {
         cells: n.cells,
@@ -126,7 +126,7 @@ fn no_numbers(test: CElement, trial: CElement, f: CIntegrand) -> CNumbers
 }
 
 pub(crate) fn c_planned(test: CElement, trial: CElement, f: CIntegrand, answer: Planned) -> CPlanned
-    ensures { λ r. ⌜ r ≡ cPlanned test trial f (Inner.plannedOf answer) ⌝ }
+    ensures { λ r. ⌜ r ≡ cPlanned test trial f answer ⌝ }
 {
     match answer {
         Planned::Ready(n) => {

@@ -2,6 +2,7 @@
 mod adds;
 mod forms;
 
+use boundary_assemblers::Run;
 use forms::c_looked;
 use forms::c_planned;
 use forms::c_run;
@@ -155,7 +156,7 @@ pub extern "C" fn seivalto_begin(numbers: CNumbers) -> CRun
     ensures { λ r. ⌜ r ≡ cRun numbers (begin (numbersOf numbers)) ⌝ }
 {
     let n = numbers_of(numbers);
-    c_run(numbers, n.begin())
+    c_run(numbers, Run::begin(n))
 }
 
 // Begins an entries run.
@@ -164,7 +165,7 @@ pub extern "C" fn seivalto_begin_entries(numbers: CNumbers) -> CRun
     ensures { λ r. ⌜ r ≡ cRun numbers (beginEntries (numbersOf numbers)) ⌝ }
 {
     let n = numbers_of(numbers);
-    c_run(numbers, n.begin_entries())
+    c_run(numbers, Run::begin_entries(n))
 }
 
 // Answers record p.

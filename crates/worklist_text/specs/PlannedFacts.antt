@@ -20,11 +20,10 @@ use Rattle.cell_pairs.specs.WorkList.{workList}
 use Rattle.pair_counts.specs.WorkRecords.{Distant, Touching}
 use Rattle.pair_counts.specs.WorkRecordsFacts.{distant-each, touching-each}
 use Rattle.pair_counts.specs.Counting.{length-work}
-use Rattle.boundary_assemblers.specs.declared.PlanNumbers as Declared
-use Rattle.boundary_assemblers.specs.declared.Planned.{Planned}
-use Rattle.boundary_assemblers.specs.declared.Planned.the-variants.{Ready, Refused}
-use Rattle.boundary_assemblers.specs.Forms.{numbersOf, plannedOf}
-use Rattle.plans.specs.Planning.{PlanNumbers, ready, refused, Planning, Lists, listsFor, batchRight, lengthsRight, planRefusal, planAnswer, plan, planLists, writtenLists, workRecords}
+use Rattle.plans.specs.declared.Planned.{Planned}
+use Rattle.plans.specs.declared.PlanNumbers.{PlanNumbers}
+use Rattle.plans.specs.declared.Planned.the-variants.{Ready as ready, Refused as refused}
+use Rattle.plans.specs.Planning.{Planning, Lists, listsFor, batchRight, lengthsRight, planRefusal, planAnswer, plan, planLists, writtenLists, workRecords}
 use Rattle.plans.specs.Accepted.{accepted, counted, ready-is}
 use Rattle.planning.specs.Facts.{dims-small}
 use Rattle.job.specs.Job.{mostWorklistCells}
@@ -179,12 +178,12 @@ text-short x l h = go (planRefusal x l) refl
     go (suc n) e = omega (arith, refused-short (suc n))
 
 -- what planning answers and leaves, ready or refused
-module _ (x : Planning) (l : Lists) {r : Planned} (answers : plannedOf r ≡ plan x l) where
-  pub ready-lines : {l′ : Lists} {p : Declared.PlanNumbers} → l′ ≡ planLists x l → r ≡ Ready p → linesOf (l′ .work) ≡ plannedText x l
-  ready-lines {l′} {p} leaves e = ap (λ (k : Lists). linesOf (k .work)) leaves ∙ sym (ready-text x l (numbersOf p) (sym answers ∙ ap plannedOf e))
+module _ (x : Planning) (l : Lists) {r : Planned} (answers : r ≡ plan x l) where
+  pub ready-lines : {l′ : Lists} {p : PlanNumbers} → l′ ≡ planLists x l → r ≡ ready p → linesOf (l′ .work) ≡ plannedText x l
+  ready-lines {l′} {p} leaves e = ap (λ (k : Lists). linesOf (k .work)) leaves ∙ sym (ready-text x l p (sym answers ∙ e))
 
-  pub refused-line : {n : ℕ} → r ≡ Refused n → refusedLine n ≡ plannedText x l
-  refused-line {n} e = sym (refused-text x l n (sym answers ∙ ap plannedOf e))
+  pub refused-line : {n : ℕ} → r ≡ refused n → refusedLine n ≡ plannedText x l
+  refused-line {n} e = sym (refused-text x l n (sym answers ∙ e))
 
 -- room for the text of few cells
 pub room-for : (x : Planning) (l : Lists) (text : List ℕ) {rs : List ℕ} → rs ≡ plannedText x l → x .mesh .cells ≤ mostWorklistCells → mostText ≤ length text → Room numbers text 0 rs

@@ -1,7 +1,6 @@
 // From the bytes of a job to the text that `worklist` prints.
 use crate::text::put_lines;
 use crate::text::put_refused;
-use boundary_assemblers::Planned;
 use function::Element;
 use function::MOST_DIM;
 use grid::Sizes;
@@ -14,6 +13,7 @@ use job::read_job;
 use numbers::wide;
 use planning::Assembly;
 use planning::plan;
+use plans::Planned;
 use work_records::WIDTH;
 ghost use mathlib.Core.Path.{_≡_};
 ghost use Prim.Native.Nat.{_*_, _≤_, min};
