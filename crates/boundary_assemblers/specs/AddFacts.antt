@@ -14,7 +14,7 @@ use Rattle.numbers.specs.Floats.{_!_}
 use Rattle.scatter.specs.Adding.{addLocal}
 use Rattle.scatter.specs.AddingFacts.{addLocal-ext}
 use Rattle.scatter.specs.Entries.{entryAt, AddFits}
-use Rattle.work_records.specs.declared.WorkRecord.{WorkRecord}
+use Rattle.cell_pairs.specs.declared.WorkRecord.{WorkRecord}
 use Rattle.plans.specs.Planning.{unlessRefused}
 use Rattle.runs.specs.Runs.{Run, Plan, Reply, Answer, accepted, refused, reply, testDim, trialDim, recordOf, testDofsOf, trialDofsOf, matrixRight, stateChecks, callChecks, advance}
 use Rattle.runs.specs.CellDofs.{cell-fits, length-cell-is}

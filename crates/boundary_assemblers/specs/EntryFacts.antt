@@ -21,7 +21,7 @@ use Rattle.boundary_assemblers.specs.RunFacts.{mostPairs, testDofsAt, tr
 use Rattle.boundary_assemblers.specs.Forms.{checked, stateChecked}
 use Rattle.boundary_assemblers.specs.declared.Checked.{Checked}
 use Rattle.boundary_assemblers.specs.declared.Checked.the-variants.{Passed}
-use Rattle.work_records.specs.declared.WorkRecord.{WorkRecord}
+use Rattle.cell_pairs.specs.declared.WorkRecord.{WorkRecord}
 
 -- 21 reads ranges and places first, so that it does no harm to read them again with the entry lists
 pub sized-same : (r : Run) (l : Plan) (b : Bool) {c : Checked} → c ≡ stateChecked r l (every (rangesRight r ∷ placesRight r ∷ b ∷ [])) → c ≡ stateChecked r l b

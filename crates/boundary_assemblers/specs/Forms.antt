@@ -2,7 +2,7 @@
 use Prim.Native.Nat.{ℕ, zero, suc}
 use mathlib.Core.Bool.{Bool}
 use Rattle.lists.specs.Refusals.{refusal}
-use Rattle.work_records.specs.declared.WorkRecord.{WorkRecord}
+use Rattle.cell_pairs.specs.declared.WorkRecord.{WorkRecord}
 use Rattle.runs.specs.Runs as Runs
 use Rattle.runs.specs.Runs.{Plan, Reply, found, accepted, recordOf, stateChecks}
 use Rattle.boundary_assemblers.specs.declared.Run.{Run}

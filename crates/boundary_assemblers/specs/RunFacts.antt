@@ -14,8 +14,8 @@ use Rattle.grid.specs.Mesh.{mostCells}
 use Rattle.numbers.specs.Ranges.{allBelow, within-low, within-high}
 use Rattle.function.specs.Elements.{mostDim, dimsRight}
 use Rattle.integrands.specs.Terms.{integrandRight}
-use Rattle.work_records.specs.declared.WorkRecord.{WorkRecord}
-use Rattle.work_records.specs.Records.{width}
+use Rattle.cell_pairs.specs.declared.WorkRecord.{WorkRecord}
+use Rattle.cell_pairs.specs.Records.{width}
 use Rattle.runs.specs.Runs.{Run, Plan, Reply, Answer, refused, reply, pairs, testDim, trialDim, recordOf, cellDofs, rangesRight, placesRight, planRight, pairLeft, recordKnown, recordRight, stateChecks}
 use Rattle.boundary_assemblers.specs.declared.Checked.the-variants.{Passed, Refused}
 use Rattle.boundary_assemblers.specs.Forms.{checked, stateChecked}

@@ -3,8 +3,8 @@ mod adds;
 mod calls;
 mod entries;
 
+use cell_pairs::WorkRecord;
 use plans::PlanNumbers;
-use work_records::WorkRecord;
 
 // A run: the numbers of the planning that it was begun from, whether it is an entries run, and its position p.
 pub struct Run {

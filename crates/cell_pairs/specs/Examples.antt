@@ -6,11 +6,11 @@ use mathlib.Core.List.{List, [], _∷_}
 use Rattle.lists.specs.Examples.{Example, example, Holds}
 use Rattle.grid.specs.Mesh.{Mesh}
 use Rattle.grid.specs.Examples.{M, M7-turned, M7-twice}
-use Rattle.function.specs.Numbering.{Space}
+use Rattle.function.specs.Elements.{Space}
 use Rattle.function.specs.Colours.{colourList}
 use Rattle.function.specs.Examples.{element, opened-function}
-use Rattle.work_records.specs.declared.WorkRecord.{WorkRecord}
-use Rattle.work_records.specs.Records.{rec, flat}
+use Rattle.cell_pairs.specs.declared.WorkRecord.{WorkRecord}
+use Rattle.cell_pairs.specs.Records.{rec, flat}
 use Rattle.cell_pairs.specs.Patterns.{matches, edgeOf, patternOf, pattern, smallestShared, patternsRight}
 use Rattle.cell_pairs.specs.WorkList.{coloured, distantPair, distantBatch, distantColours, distantPart, touchingPair, touchingPart, workList, sharingPairs, distantPairs}
 

@@ -7,7 +7,7 @@ use Rattle.lists.specs.Bool.{_and_, _or_}
 use Rattle.lists.specs.Bounded.{all, least}
 use Rattle.lists.specs.Range.{range, when}
 use Rattle.grid.specs.Shape.{entity, has, share, firstEnd, secondEnd, sameTwo}
-use Rattle.work_records.specs.Records.{patternCount}
+use Rattle.cell_pairs.specs.Records.{patternCount}
 
 -- a shared vertex, by its places in the two cells
 pub record Match : Type 0 where

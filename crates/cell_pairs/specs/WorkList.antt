@@ -10,8 +10,8 @@ use Rattle.lists.specs.Total.{total, count}
 use Rattle.grid.specs.Shape.{share}
 use Rattle.grid.specs.Mesh.{Mesh}
 use Rattle.function.specs.Colours.{colourCount}
-use Rattle.work_records.specs.declared.WorkRecord.{WorkRecord}
-use Rattle.work_records.specs.Records.{rec, patternCount, distantPattern}
+use Rattle.cell_pairs.specs.declared.WorkRecord.{WorkRecord}
+use Rattle.cell_pairs.specs.Records.{rec, patternCount, distantPattern}
 use Rattle.cell_pairs.specs.Patterns.{pattern, smallestShared}
 
 -- the cells of colour c, rising, of C cells

@@ -16,7 +16,7 @@ use Rattle.lists.specs.Range.{range, when}
 use Rattle.grid.specs.Facts.{has-at, share-turned}
 use Rattle.grid.specs.Shape.{entity, has, share, secondEnd, sameTwo}
 use Rattle.grid.specs.Mesh.{distinct}
-use Rattle.work_records.specs.Records.{patternCount}
+use Rattle.cell_pairs.specs.Records.{patternCount}
 use Rattle.cell_pairs.specs.Patterns.{Match, matches, edgeOf, patternOf, pattern, smallestShared}
 
 -- ---- places

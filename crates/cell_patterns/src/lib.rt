@@ -1,7 +1,7 @@
 // Touching pairs (`get_pairs_if_smallest`): the pattern of two cells, their smallest shared vertex, and check 7.
+use cell_pairs::NO_PATTERN;
 use grid::has_entity;
 use numbers::wide;
-use work_records::NO_PATTERN;
 ghost use mathlib.Core.Path.{_≡_};
 ghost use mathlib.Core.Bool.{true};
 ghost use Prim.Native.Nat.{ℕ, _+_, _*_, _≤_, _<_};

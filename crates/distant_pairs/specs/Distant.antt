@@ -10,7 +10,7 @@ use Rattle.lists.specs.Bool.{_or_}
 use Rattle.lists.specs.Bounded.{some}
 use Rattle.lists.specs.Range.{range, batch}
 use Rattle.grid.specs.Shape.{entity}
-use Rattle.work_records.specs.declared.WorkRecord.{WorkRecord}
+use Rattle.cell_pairs.specs.declared.WorkRecord.{WorkRecord}
 use Rattle.cell_pairs.specs.WorkList.{batches, distantPair, distantBatch, distantColours}
 use Rattle.cells_by_key.specs.Groups.{part}
 

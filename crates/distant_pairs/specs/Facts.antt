@@ -13,7 +13,7 @@ use Rattle.lists.specs.Range.{flatMap-below}
 use Rattle.grid.specs.Shape.{has, share}
 use Rattle.grid.specs.Mesh.{Mesh}
 use Rattle.function.specs.Colours.{colourCount}
-use Rattle.work_records.specs.Records.{rec, distantPattern}
+use Rattle.cell_pairs.specs.Records.{rec, distantPattern}
 use Rattle.cell_pairs.specs.WorkList.{coloured, distantPair, distantColours, distantPart}
 use Rattle.cells_by_key.specs.Groups.{Grouped}
 use Rattle.cells_by_key.specs.GroupsFacts.{grouped-each}

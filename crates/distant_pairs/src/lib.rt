@@ -1,17 +1,17 @@
 // Writes the distant part of the work list: a small function for each loop of the order, each with a
 // contract of one form, `Wrote ..`: the lent list is as it was with these records written from a place
 // on, and the result is the place after them.
+use cell_pairs::DISTANT;
+use cell_pairs::WorkRecord;
+use cell_pairs::put_record;
 use cells_by_key::part_of;
 use numbers::wide;
-use work_records::DISTANT;
-use work_records::WorkRecord;
-use work_records::put_record;
 ghost use mathlib.Core.Path.{_≡_};
 ghost use Prim.Native.Nat.{_+_, _*_, _≤_, _<_};
 ghost use lib.ListN.{length};
 ghost use Rattle.lists.specs.Range.{batch};
 ghost use Rattle.lists.specs.Writes.{Wrote, Room};
-ghost use Rattle.work_records.specs.Laws.{records};
+ghost use Rattle.cell_pairs.specs.RecordsFacts.{records};
 ghost use Rattle.cell_pairs.specs.WorkList.{mostBatch, distantPair, distantBatch, distantColours};
 ghost use Rattle.cells_by_key.specs.Groups.{Cells, Cut};
 ghost use Rattle.distant_pairs.specs.Distant.{Corners, hasOneOf, distantRow, distantTrials, distantRest, distantParts};

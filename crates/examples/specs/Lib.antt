@@ -2,7 +2,8 @@
 -- what the paper says, in `specs/Examples.antt` of the crate of its layer, and antt computes it there. Assumes nothing.
 use mathlib.Core.List.{List, [], _∷_}
 use Rattle.lists.specs.Examples.{Example, Agree, no-more, _and-also_}
-use Rattle.function.specs.Examples.{M1-colours, M1-dofs, M2-dofs, M3-colours, M2-owners, M2-count, M1-colours-holds, M1-dofs-holds, M2-dofs-holds, M3-colours-holds, M2-owners-holds, M2-count-holds, by-edges, two-an-edge, two-owners, by-edges-holds, two-an-edge-holds, two-owners-holds}
+use Rattle.function.specs.Examples.{M1-colours, M3-colours, M1-colours-holds, M3-colours-holds, by-edges, by-edges-holds}
+use Rattle.dof_numbering.specs.Examples.{M1-dofs, M2-dofs, M2-owners, M2-count, M1-dofs-holds, M2-dofs-holds, M2-owners-holds, M2-count-holds, two-an-edge, two-owners, two-an-edge-holds, two-owners-holds}
 use Rattle.integrands.specs.Examples.{F3, F4, F3-holds, F4-holds, double, normals, factor, two, one, double-holds, normals-hold, factor-holds, two-holds, one-holds}
 use Rattle.lent_numbers.specs.Examples.{F1, F2, F1-rounded, F2-rounded, F1-holds, F2-holds, F1-rounded-holds, F2-rounded-holds, two-points, four-pairs, point-order, two-points-hold, four-pairs-hold, point-order-holds}
 use Rattle.scatter.specs.Examples.{added, rows-columns, values, added-holds, rows-columns-hold, values-hold}

@@ -10,7 +10,7 @@ use Rattle.lists.specs.Bool.{_and_}
 use Rattle.lists.specs.Bounded.{some, least}
 use Rattle.grid.specs.Shape.{share}
 use Rattle.grid.specs.Mesh.{mostCells}
-use Rattle.function.specs.Numbering.{Space}
+use Rattle.function.specs.Elements.{Space}
 
 -- an earlier cell that shares with cell i, by the relation r, has colour c of the colours cs
 unfoldable pub taken : (ℕ → ℕ → Bool) → List ℕ → ℕ → ℕ → Bool

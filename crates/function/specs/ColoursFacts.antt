@@ -16,7 +16,7 @@ use Rattle.lists.specs.Bounded.{some, least, some-not, some-none, some-ext, som
 use Rattle.lists.specs.Stores.{sets-more, sets-all, getD-front}
 use Rattle.grid.specs.Shape.{has, share}
 use Rattle.grid.specs.Mesh.{mostCells}
-use Rattle.function.specs.Numbering.{Space}
+use Rattle.function.specs.Elements.{Space}
 use Rattle.function.specs.Colours.{taken, smallest, coloursTo, sharing, colourList, colourCount}
 
 -- ---- the colours, one by one

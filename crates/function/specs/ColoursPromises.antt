@@ -9,7 +9,7 @@ use lib.Dec.{ltb, eqb}
 use borrow.Author.Tests.{eqb-true, eq-eqb}
 use Rattle.lists.specs.Bounded.{lt-or-le}
 use Rattle.grid.specs.Shape.{share}
-use Rattle.function.specs.Numbering.{Space}
+use Rattle.function.specs.Elements.{Space}
 use Rattle.function.specs.Colours.{sharing, colourList, colourCount}
 use Rattle.grid.specs.Facts.{share-turned}
 use Rattle.function.specs.ColoursFacts.{length-colours, colour-le, colours-differ, count-le}

@@ -1,6 +1,7 @@
--- The element: local DOFs, and check 4. Assumes nothing.
+-- The element: local DOFs, and check 4; a function space. Assumes nothing.
 use Prim.Native.Nat.{ℕ, _+_, _*_}
 use mathlib.Core.Bool.{Bool}
+use mathlib.Core.List.{List}
 use Rattle.lists.specs.Bool.{_and_}
 use Rattle.numbers.specs.Ranges.{within}
 use Rattle.function.specs.declared.Element.{Element}
@@ -15,3 +16,9 @@ mostDim = 10
 -- 4: both dims are from 1 to 10
 unfoldable pub dimsRight : Element → Element → Bool
 dimsRight test trial = within 1 mostDim (dim test) and within 1 mostDim (dim trial)
+
+-- A function space: the vertex list and the edge list of a mesh, and an element on it
+pub record Space : Type 0 where
+  pub cellVertices : List ℕ
+  pub cellEdges : List ℕ
+  pub element : Element

@@ -1,13 +1,11 @@
-// Elements on a mesh: DOF numbers and colours.
+// Elements on a mesh, and colours.
 use numbers::wide;
 ghost use mathlib.Core.Path.{_≡_};
 ghost use Rattle.function.specs.Elements.{dim, dimsRight};
 
 mod colouring;
-mod numbering;
 
 pub use colouring::cell_colouring;
-pub use numbering::assign_dofs;
 
 // The most local DOFs of a cell.
 pub const MOST_DIM: usize = 10;

@@ -12,13 +12,13 @@ use Rattle.grid.specs.Mesh.{mostCells, Mesh, verticesRight}
 use Rattle.numbers.specs.Ranges.{within-high}
 use Rattle.function.specs.declared.Element.{Element}
 use Rattle.function.specs.Elements.{dim}
-use Rattle.function.specs.Numbering.{dofList, dofCount, ownerList}
-use Rattle.function.specs.NumberingWalk.{Sized}
+use Rattle.dof_numbering.specs.Numbering.{dofList, dofCount, ownerList}
+use Rattle.dof_numbering.specs.Walk.{Sized}
 use Rattle.function.specs.Colours.{colourList, colourCount, Colourable}
 use Rattle.function.specs.ColoursPromises.{count-at-most}
-use Rattle.work_records.specs.Records.{flat}
+use Rattle.cell_pairs.specs.Records.{flat}
 use Rattle.cell_pairs.specs.WorkList.{mostBatch, distantPart, touchingPair, touchingPart, workList, sharingPairs, distantPairs}
-use Rattle.pair_counts.specs.Counting.{Countable, split}
+use Rattle.cell_pairs.specs.Counting.{Countable, split}
 use Rattle.touching_pairs.specs.Visits.{bare, Touchable}
 use Rattle.plans.specs.declared.PlanNumbers.{PlanNumbers}
 use Rattle.plans.specs.declared.Planned.the-variants.{Ready as ready, Refused as refused}

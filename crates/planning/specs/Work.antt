@@ -9,11 +9,11 @@ use Rattle.lists.specs.Stores.{sets-all}
 use Rattle.lists.specs.Writes.{Room, Wrote, wrote-more, wrote-length}
 use Rattle.grid.specs.Mesh.{mostCells, mostVertices, Mesh}
 use Rattle.function.specs.Colours.{colourCount}
-use Rattle.work_records.specs.Records.{width, flat}
-use Rattle.work_records.specs.Laws.{records, length-flat}
+use Rattle.cell_pairs.specs.Records.{width, flat}
+use Rattle.cell_pairs.specs.RecordsFacts.{records, length-flat}
 use Rattle.cell_pairs.specs.WorkList.{mostBatch, coloured, distantPart, touchingPart, workList, distantPairs}
-use Rattle.pair_counts.specs.Counting.{Countable, split, length-distant, length-touching, length-work}
-use Rattle.pair_counts.specs.CellGroupsFacts.{colour-below}
+use Rattle.cell_pairs.specs.Counting.{Countable, split, length-distant, length-touching, length-work}
+use Rattle.cell_pairs.specs.CellGroupsFacts.{colour-below}
 use Rattle.cells_by_key.specs.Groups.{cellsWith, Grouped, Cut, Below, Zeros}
 use Rattle.cells_by_key.specs.GroupsFacts.{filter-cells, grouped-as, grouped-cut, with-colour, scratch, scratch-zeros}
 use Rattle.distant_pairs.specs.Distant.{distantParts}

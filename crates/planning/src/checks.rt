@@ -1,5 +1,6 @@
 // Checks 1 to 8, in this order.
 use crate::Assembly;
+use cell_pairs::WIDTH;
 use cell_patterns::patterns_right;
 use function::Element;
 use function::dims_right;
@@ -7,7 +8,6 @@ use grid::Sizes;
 use grid::mesh_refusal;
 use integrands::integrand_right;
 use numbers::wide;
-use work_records::WIDTH;
 ghost use mathlib.Core.Path.{_≡_};
 ghost use Prim.Native.Nat.{_≤_};
 ghost use Rattle.plans.specs.Planning.{lengthsRight, planRefusal};

@@ -3,8 +3,8 @@ mod checks;
 mod work_list;
 
 use checks::plan_refusal;
+use dof_numbering::assign_dofs;
 use function::Element;
-use function::assign_dofs;
 use function::cell_colouring;
 use grid::Sizes;
 use integrands::Integrand;

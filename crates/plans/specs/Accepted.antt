@@ -13,7 +13,7 @@ use Rattle.function.specs.Colours.{colourList}
 use Rattle.function.specs.ColoursPromises.{colours-long}
 use Rattle.integrands.specs.Terms.{integrandRight}
 use Rattle.cell_pairs.specs.Patterns.{patternsRight}
-use Rattle.pair_counts.specs.Counting.{Countable, countable}
+use Rattle.cell_pairs.specs.Counting.{Countable, countable}
 use Rattle.plans.specs.declared.PlanNumbers.{PlanNumbers}
 use Rattle.plans.specs.declared.Planned.the-variants.{Ready as ready}
 use Rattle.plans.specs.Planning.{Planning, Lists, batchRight, lengthsRight, planChecks, planRefusal, planNumbers, planAnswer, plan, testSpace, trialSpace}

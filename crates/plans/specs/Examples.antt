@@ -6,9 +6,10 @@ use Rattle.lists.specs.Examples.{Example, example, Holds}
 use Rattle.grid.specs.Mesh.{Mesh}
 use Rattle.grid.specs.Examples.{M, M7-turned, M7-twice, M8-large}
 use Rattle.function.specs.Examples.{element}
+use Rattle.dof_numbering.specs.Examples.{opened-dofs}
 use Rattle.integrands.specs.declared.Term.the-variants.{Bare}
 use Rattle.integrands.specs.Examples.{opened-integrands}
-use Rattle.work_records.specs.Records.{rec, flat}
+use Rattle.cell_pairs.specs.Records.{rec, flat}
 use Rattle.cell_pairs.specs.Examples.{opened-cell-pairs}
 use Rattle.plans.specs.declared.PlanNumbers.{PlanNumbers}
 use Rattle.plans.specs.declared.Planned.{Planned}
@@ -17,7 +18,7 @@ use Rattle.plans.specs.Planning.{Planning, Lists, listsOf, listsFor, bat
 
 -- opens the definitions of this crate and of those below it
 unfoldable pub opened-plans : Unit {0}
-unfolding opened-cell-pairs opened-integrands batchRight lengthsRight planRefusal planNumbers plan writtenLists planLists
+unfolding opened-cell-pairs opened-dofs opened-integrands batchRight lengthsRight planRefusal planNumbers plan writtenLists planLists
 opened-plans = tt
 
 -- planned with one bare term of kind 0, both elements a = 1

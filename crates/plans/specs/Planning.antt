@@ -10,12 +10,13 @@ use Rattle.grid.specs.Mesh.{Mesh, meshChecks}
 use Rattle.numbers.specs.Ranges.{within}
 use Rattle.function.specs.declared.Element.{Element}
 use Rattle.function.specs.Elements.{dim, dimsRight}
-use Rattle.function.specs.Numbering.{Space, dofList, dofCount, ownerList}
+use Rattle.function.specs.Elements.{Space}
+use Rattle.dof_numbering.specs.Numbering.{dofList, dofCount, ownerList}
 use Rattle.function.specs.Colours.{colourList}
 use Rattle.integrands.specs.declared.Integrand.{Integrand}
 use Rattle.integrands.specs.Terms.{integrandRight}
-use Rattle.work_records.specs.declared.WorkRecord.{WorkRecord}
-use Rattle.work_records.specs.Records.{width, flat}
+use Rattle.cell_pairs.specs.declared.WorkRecord.{WorkRecord}
+use Rattle.cell_pairs.specs.Records.{width, flat}
 use Rattle.cell_pairs.specs.Patterns.{patternsRight}
 use Rattle.cell_pairs.specs.WorkList.{mostBatch, workList, sharingPairs, distantPairs}
 use Rattle.plans.specs.declared.PlanNumbers.{PlanNumbers}

@@ -11,15 +11,16 @@ use Rattle.lists.specs.Total.{count}
 use Rattle.grid.specs.Facts.{vertices-differ, edges-differ}
 use Rattle.function.specs.declared.Element.{Element}
 use Rattle.function.specs.Elements.{dim}
-use Rattle.function.specs.Numbering.{Space, dimensionOf, entityOf, dofsOn, dofsBefore, sameEntity, dofList, dofCount, ownerList}
-use Rattle.function.specs.NumberingPromises.{dof-list-length, dof-below, dof-count-le, number-written, cell-numbers-differ, shared-numbers, number-below, owner-names, owner-list-length}
+use Rattle.function.specs.Elements.{Space}
+use Rattle.dof_numbering.specs.Numbering.{dimensionOf, entityOf, dofsOn, dofsBefore, sameEntity, dofList, dofCount, ownerList}
+use Rattle.dof_numbering.specs.Promises.{dof-list-length, dof-below, dof-count-le, number-written, cell-numbers-differ, shared-numbers, number-below, owner-names, owner-list-length}
 use Rattle.function.specs.Colours.{sharing, colourList}
 use Rattle.function.specs.ColoursPromises.{colours-long, sharing-differ}
-use Rattle.work_records.specs.Records.{rec, width, flat, recordsOf}
-use Rattle.work_records.specs.Laws.{length-flat, records-flat}
+use Rattle.cell_pairs.specs.Records.{rec, width, flat, recordsOf}
+use Rattle.cell_pairs.specs.RecordsFacts.{length-flat, records-flat}
 use Rattle.cell_pairs.specs.WorkList.{sharingPairs, distantPairs}
-use Rattle.pair_counts.specs.WorkRecords.{ofPair, Distant, Touching}
-use Rattle.pair_counts.specs.Counting.{once, split, length-work, record-distant, record-touching}
+use Rattle.cell_pairs.specs.WorkRecords.{ofPair, Distant, Touching}
+use Rattle.cell_pairs.specs.Counting.{once, split, length-work, record-distant, record-touching}
 use Rattle.grid.specs.Mesh.{Mesh}
 use Rattle.plans.specs.declared.PlanNumbers.{PlanNumbers}
 use Rattle.plans.specs.declared.Planned.the-variants.{Ready as ready, Refused as refused}

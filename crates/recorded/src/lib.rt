@@ -1,4 +1,8 @@
 // Files of recorded answers: words of 16 hexadecimal digits, a blank or a line end after each.
+mod heads;
+
+pub use heads::Head;
+pub use heads::read_head;
 ghost use mathlib.Core.Path.{_≡_};
 ghost use Prim.Native.Nat.{_≤_};
 ghost use lib.ListN.{length};

@@ -12,7 +12,7 @@ use lib.Ieee.{Float}
 use Rattle.lists.specs.Bool.{_and_}
 use Rattle.lists.specs.Fold.{listOf}
 use Rattle.lent_numbers.specs.Lent.{Touching, Distant}
-use Rattle.work_records.specs.declared.WorkRecord.{WorkRecord}
+use Rattle.cell_pairs.specs.declared.WorkRecord.{WorkRecord}
 use Rattle.runs.specs.Runs.{Answer, found, accepted, refused}
 use Rattle.runs.specs.Calls.{Call, looks, addsDistant, addsTouching, addsEntries}
 use Rattle.replay.specs.Encoding.{partOf, listIn, distantIn, touchingIn, callOf, callAt, callsOf, callCount, answerNumbers}

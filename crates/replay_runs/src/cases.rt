@@ -2,7 +2,7 @@
 use grid::Sizes;
 use planning::Assembly;
 use recorded::digit_at;
-use recorded_plans::read_head;
+use recorded::read_head;
 
 // What planning is given, whether the run is an entries run, and planning's refusal, or 0.
 pub struct Case {

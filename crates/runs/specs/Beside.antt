@@ -17,16 +17,16 @@ use Rattle.grid.specs.Shape.{share}
 use Rattle.grid.specs.Mesh.{cellsRight, verticesRight, edgesRight}
 use Rattle.numbers.specs.Ranges.{allBelow}
 use Rattle.function.specs.Elements.{dim}
-use Rattle.function.specs.Numbering.{dofList, dofCount}
-use Rattle.function.specs.NumberingPromises.{dof-list-length, dof-count-le}
+use Rattle.dof_numbering.specs.Numbering.{dofList, dofCount}
+use Rattle.dof_numbering.specs.Promises.{dof-list-length, dof-count-le}
 use Rattle.lent_numbers.specs.Lent.{Touching, Distant}
 use Rattle.lent_numbers.specs.Entries.{touchingEntry, distantEntry}
 use Rattle.scatter.specs.Adding.{addLocal}
-use Rattle.work_records.specs.declared.WorkRecord.{WorkRecord}
-use Rattle.work_records.specs.Records.{width, rec, flat, recordAt}
+use Rattle.cell_pairs.specs.declared.WorkRecord.{WorkRecord}
+use Rattle.cell_pairs.specs.Records.{width, rec, flat, recordAt}
 use Rattle.cell_pairs.specs.WorkList.{distantPairs}
-use Rattle.work_records.specs.Laws.{flat-at, length-flat}
-use Rattle.pair_counts.specs.Counting.{split}
+use Rattle.cell_pairs.specs.RecordsFacts.{flat-at, length-flat}
+use Rattle.cell_pairs.specs.Counting.{split}
 use Rattle.plans.specs.Planning.{Planning, Lists, planNumbers, unlessRefused, testSpace, trialSpace}
 use Rattle.plans.specs.Accepted.{Accepted}
 use Rattle.runs.specs.Runs.{Run, Plan, EntryLists, Answer, found, answered, begin, beginEntries, begun, recordOf, testDofsOf, trialDofsOf, written, cellDofs, isTouching, isDistant, rangesRight, placesRight, planRight, matrixRight, entriesRight, pairLeft, recordKnown, recordRight, stateChecks, lookRefusal, distantRefusal, touchingRefusal, entriesRefusal, advance, look, addDistant, addTouching, addEntries, distantMatrix, touchingMatrix, entriesWritten}

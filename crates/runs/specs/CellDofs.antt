@@ -12,8 +12,9 @@ use borrow.Author.Tests.{lt-ltb}
 use Rattle.lists.specs.Bounded.{all-of}
 use Rattle.numbers.specs.Ranges.{allBelow}
 use Rattle.function.specs.Elements.{dim}
-use Rattle.function.specs.Numbering.{Space, dofList, dofCount}
-use Rattle.function.specs.NumberingPromises.{dof-below}
+use Rattle.function.specs.Elements.{Space}
+use Rattle.dof_numbering.specs.Numbering.{dofList, dofCount}
+use Rattle.dof_numbering.specs.Promises.{dof-below}
 use Rattle.runs.specs.Runs.{cellDofs}
 
 -- they lie within the list

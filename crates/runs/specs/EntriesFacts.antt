@@ -15,12 +15,12 @@ use Rattle.lists.specs.Refusals.{refusal-at}
 use Rattle.lists.specs.Range.{when, flatMap-append, flatMap-one, flatMap-take}
 use Rattle.lists.specs.Stores.{sets-append, sets-all}
 use Rattle.function.specs.Colours.{colourList}
-use Rattle.function.specs.NumberingPromises.{dof-list-length}
+use Rattle.dof_numbering.specs.Promises.{dof-list-length}
 use Rattle.lent_numbers.specs.Lent.{Touching}
-use Rattle.work_records.specs.declared.WorkRecord.{WorkRecord}
-use Rattle.work_records.specs.Records.{rec}
+use Rattle.cell_pairs.specs.declared.WorkRecord.{WorkRecord}
+use Rattle.cell_pairs.specs.Records.{rec}
 use Rattle.cell_pairs.specs.WorkList.{touchingPart, distantPart, workList, distantPairs, sharingPairs}
-use Rattle.pair_counts.specs.Counting.{split, length-distant, length-touching, record-touching}
+use Rattle.cell_pairs.specs.Counting.{split, length-distant, length-touching, record-touching}
 use Rattle.scatter.specs.AddingFacts.{length-localRows, length-localColumns, length-localValues}
 use Rattle.plans.specs.Planning.{Planning, Lists, testSpace, trialSpace, workRecords}
 use Rattle.plans.specs.Accepted.{Accepted, counted}

@@ -8,7 +8,7 @@ use lib.ListN.{length, getD, take, length-map}
 use lib.Dec.{eqb}
 use lib.Ieee.{Float}
 use Rattle.lent_numbers.specs.Lent.{Touching}
-use Rattle.work_records.specs.Records.{rec}
+use Rattle.cell_pairs.specs.Records.{rec}
 use Rattle.cell_pairs.specs.WorkList.{touchingPart, distantPairs}
 use Rattle.plans.specs.declared.PlanNumbers.{PlanNumbers}
 use Rattle.plans.specs.declared.Planned.the-variants.{Ready as ready}

@@ -10,7 +10,7 @@ use Rattle.integrands.specs.declared.Term.the-variants.{Bare}
 use Rattle.integrands.specs.Examples.{1·}
 use Rattle.lent_numbers.specs.Lent.{Touching, touching, Distant, distant}
 use Rattle.lent_numbers.specs.Examples.{opened-lent-numbers}
-use Rattle.work_records.specs.Records.{rec, recordAt}
+use Rattle.cell_pairs.specs.Records.{rec, recordAt}
 use Rattle.plans.specs.declared.PlanNumbers.{PlanNumbers}
 use Rattle.runs.specs.Runs.{Run, Plan, planOf, Answer, found, accepted, refused, cellDofs, rangesRight, placesRight, planRight, matrixRight, pairLeft, recordKnown, recordRight, lookRefusal, distantRefusal, touchingRefusal, look, addDistant, addTouching}
 

@@ -9,10 +9,10 @@ use lib.ListN.{getD}
 use lib.Ieee.{Float}
 use borrow.Author.Tests.{lt-ltb, le-ltb, eq-eqb, ne-eqb}
 use Rattle.lists.specs.Bounded.{lt-or-le}
-use Rattle.work_records.specs.Records.{rec, patternCount, distantPattern}
+use Rattle.cell_pairs.specs.Records.{rec, patternCount, distantPattern}
 use Rattle.cell_pairs.specs.WorkList.{distantPairs}
-use Rattle.pair_counts.specs.WorkRecords.{Distant, Touching}
-use Rattle.pair_counts.specs.Counting.{length-work, record-distant, record-touching, records-right}
+use Rattle.cell_pairs.specs.WorkRecords.{Distant, Touching}
+use Rattle.cell_pairs.specs.Counting.{length-work, record-distant, record-touching, records-right}
 use Rattle.plans.specs.declared.PlanNumbers.{PlanNumbers}
 use Rattle.plans.specs.declared.Planned.the-variants.{Ready as ready}
 use Rattle.plans.specs.Planning.{Planning, Lists, plan, planRefusal, planLists, writtenLists, workRecords}

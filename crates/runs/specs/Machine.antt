@@ -12,12 +12,12 @@ use Rattle.lists.specs.Fold.{over}
 use Rattle.lists.specs.Refusals.{Check, check, refusal}
 use Rattle.grid.specs.Shape.{share}
 use Rattle.function.specs.Elements.{dim}
-use Rattle.function.specs.Numbering.{dofList, dofCount}
+use Rattle.dof_numbering.specs.Numbering.{dofList, dofCount}
 use Rattle.integrands.specs.declared.Integrand.{Integrand}
 use Rattle.lent_numbers.specs.Lent.{touchingChecks, distantChecks}
 use Rattle.lent_numbers.specs.Entries.{touchingEntry, distantEntry}
-use Rattle.work_records.specs.declared.WorkRecord.{WorkRecord}
-use Rattle.work_records.specs.Records.{rec}
+use Rattle.cell_pairs.specs.declared.WorkRecord.{WorkRecord}
+use Rattle.cell_pairs.specs.Records.{rec}
 use Rattle.cell_pairs.specs.WorkList.{distantPairs}
 use Rattle.scatter.specs.Adding.{addLocal, localRows, localColumns, localValues}
 use Rattle.plans.specs.Planning.{Planning, testSpace, trialSpace, workRecords, unlessRefused}

@@ -13,7 +13,7 @@ use Rattle.lists.specs.Total.{count}
 use Rattle.numbers.specs.Floats.{_⊕_}
 use Rattle.lent_numbers.specs.Lent.{Touching}
 use Rattle.lent_numbers.specs.Entries.{touchingEntry, distantEntry}
-use Rattle.work_records.specs.declared.WorkRecord.{WorkRecord}
+use Rattle.cell_pairs.specs.declared.WorkRecord.{WorkRecord}
 use Rattle.scatter.specs.Adding.{localRows, localColumns, localValues}
 use Rattle.runs.specs.Runs.{EntryLists, Answer, found, accepted, refused, answered}
 use Rattle.runs.specs.Calls.{Call, looks, addsDistant, addsTouching, addsEntries}

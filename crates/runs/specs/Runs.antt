@@ -16,8 +16,8 @@ use Rattle.integrands.specs.Terms.{integrandRight}
 use Rattle.lent_numbers.specs.Lent.{Touching, Distant, touchingChecks, distantChecks}
 use Rattle.lent_numbers.specs.Entries.{touchingEntry, distantEntry}
 use Rattle.scatter.specs.Adding.{addLocal, localRows, localColumns, localValues}
-use Rattle.work_records.specs.declared.WorkRecord.{WorkRecord}
-use Rattle.work_records.specs.Records.{patternCount, distantPattern, width, recordAt}
+use Rattle.cell_pairs.specs.declared.WorkRecord.{WorkRecord}
+use Rattle.cell_pairs.specs.Records.{patternCount, distantPattern, width, recordAt}
 use Rattle.plans.specs.declared.PlanNumbers.{PlanNumbers}
 use Rattle.plans.specs.Planning.{unlessRefused}
 

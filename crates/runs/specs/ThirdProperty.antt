@@ -11,9 +11,9 @@ use lib.Seq.{take-all}
 use lib.Dec.{eqb}
 use lib.Ieee.{Float, nan}
 use Rattle.lists.specs.Total.{count}
-use Rattle.work_records.specs.Records.{rec}
-use Rattle.pair_counts.specs.WorkRecords.{ofPair}
-use Rattle.pair_counts.specs.Counting.{once, length-work}
+use Rattle.cell_pairs.specs.Records.{rec}
+use Rattle.cell_pairs.specs.WorkRecords.{ofPair}
+use Rattle.cell_pairs.specs.Counting.{once, length-work}
 use Rattle.plans.specs.declared.PlanNumbers.{PlanNumbers}
 use Rattle.plans.specs.declared.Planned.the-variants.{Ready as ready}
 use Rattle.plans.specs.Planning.{Planning, Lists, plan, planLists, workRecords}

@@ -4,7 +4,7 @@ use Prim.Native.Nat.{ℕ, zero, suc}
 use mathlib.Core.List.{List, [], _∷_, _++_}
 use lib.Ieee.{Float}
 use Rattle.lists.specs.Fold.{over}
-use Rattle.work_records.specs.Records.{rec}
+use Rattle.cell_pairs.specs.Records.{rec}
 use Rattle.runs.specs.Runs.{Plan, EntryLists, look, addDistant, addTouching, addEntries, distantMatrix, touchingMatrix, entriesWritten, Answer, found, accepted, refused}
 use Rattle.runs.specs.Calls.{Call, looks, addsDistant, addsTouching, addsEntries}
 use Rattle.seivalto.specs.declared.CRecord.{CRecord}

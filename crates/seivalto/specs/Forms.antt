@@ -7,7 +7,7 @@ use Rattle.function.specs.declared.Element.{Element}
 use Rattle.integrands.specs.declared.Term.{Term}
 use Rattle.integrands.specs.declared.Term.the-variants.{Bare, Scaled}
 use Rattle.integrands.specs.declared.Integrand.{Integrand}
-use Rattle.work_records.specs.declared.WorkRecord.{WorkRecord}
+use Rattle.cell_pairs.specs.declared.WorkRecord.{WorkRecord}
 use Rattle.plans.specs.declared.PlanNumbers.{PlanNumbers}
 use Rattle.plans.specs.declared.Planned.{Planned}
 use Rattle.plans.specs.declared.Planned.the-variants.{Ready as ready, Refused as not-planned}

@@ -10,7 +10,7 @@ use Rattle.lists.specs.Refusals.{Check, refusal, unless}
 use Rattle.plans.specs.declared.PlanNumbers.{PlanNumbers}
 use Rattle.plans.specs.Planning.{Planning, Lists, planChecks, planRefusal, planAnswer, plan, planNumbers}
 use Rattle.runs.specs.Runs.{Run, Plan, EntryLists, found, accepted, reply, recordOf, advance, lookRefusal, distantRefusal, touchingRefusal, entriesRefusal, look, addDistant, addTouching, addEntries}
-use Rattle.work_records.specs.declared.WorkRecord.{WorkRecord}
+use Rattle.cell_pairs.specs.declared.WorkRecord.{WorkRecord}
 use Rattle.lent_numbers.specs.Lent.{Touching, Distant}
 use Rattle.seivalto.specs.declared.CElement.{CElement}
 use Rattle.seivalto.specs.declared.CIntegrand.{CIntegrand}

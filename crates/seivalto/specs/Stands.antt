@@ -9,7 +9,7 @@ use Rattle.lent_numbers.specs.Lent.{Touching, Distant}
 use Rattle.lists.specs.Bool.{_and_, every-fails}
 use Rattle.lists.specs.Refusals.{Check, refusal, refusal-fails}
 use Rattle.grid.specs.Mesh.{Mesh}
-use Rattle.work_records.specs.declared.WorkRecord.{WorkRecord}
+use Rattle.cell_pairs.specs.declared.WorkRecord.{WorkRecord}
 use Rattle.plans.specs.Planning.{planningOf, planNumbers}
 use Rattle.runs.specs.Runs.{Run, Plan, EntryLists, Reply, found, accepted, reply, begin, beginEntries, rangesRight, placesRight, planRight, stateChecks, lookRefusal, advance, distantRefusal, touchingRefusal, entriesRefusal}
 use Rattle.seivalto.specs.declared.CElement.{CElement}

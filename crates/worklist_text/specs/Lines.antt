@@ -3,7 +3,7 @@ use Prim.Native.Nat.{ℕ, _/_}
 use mathlib.Core.List.{List, [], _∷_, flatMap}
 use lib.ListN.{length}
 use Rattle.lists.specs.Range.{range}
-use Rattle.work_records.specs.Records.{width, recordAt}
+use Rattle.cell_pairs.specs.Records.{width, recordAt}
 use Rattle.worklist_text.specs.Text.{lineOf}
 
 -- `refused `

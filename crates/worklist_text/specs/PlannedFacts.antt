@@ -17,9 +17,9 @@ use Rattle.function.specs.Elements.{mostDim, dim, dimsRight}
 use Rattle.integrands.specs.Terms.{integrandRight}
 use Rattle.cell_pairs.specs.Patterns.{patternsRight}
 use Rattle.cell_pairs.specs.WorkList.{workList}
-use Rattle.pair_counts.specs.WorkRecords.{Distant, Touching}
-use Rattle.pair_counts.specs.WorkRecordsFacts.{distant-each, touching-each}
-use Rattle.pair_counts.specs.Counting.{length-work}
+use Rattle.cell_pairs.specs.WorkRecords.{Distant, Touching}
+use Rattle.cell_pairs.specs.WorkRecordsFacts.{distant-each, touching-each}
+use Rattle.cell_pairs.specs.Counting.{length-work}
 use Rattle.plans.specs.declared.Planned.{Planned}
 use Rattle.plans.specs.declared.PlanNumbers.{PlanNumbers}
 use Rattle.plans.specs.declared.Planned.the-variants.{Ready as ready, Refused as refused}

@@ -14,9 +14,9 @@ use borrow.Author.Tests.{lt-ltb, le-ltb}
 use Rattle.lists.specs.Bounded.{lt-or-le}
 use Rattle.lists.specs.Range.{range, flatMap-range, flatMap-none, flatMap-below, flatMap-take, AllIn}
 use Rattle.lists.specs.Writes.{numbers, Wrote, Room, wrote-length}
-use Rattle.work_records.specs.declared.WorkRecord.{WorkRecord}
-use Rattle.work_records.specs.Records.{rec, width, flat, recordAt}
-use Rattle.work_records.specs.Laws.{length-flat, flat-at}
+use Rattle.cell_pairs.specs.declared.WorkRecord.{WorkRecord}
+use Rattle.cell_pairs.specs.Records.{rec, width, flat, recordAt}
+use Rattle.cell_pairs.specs.RecordsFacts.{length-flat, flat-at}
 use Rattle.worklist_text.specs.Text.{digits, decimal, lineOf, refusedLine}
 use Rattle.worklist_text.specs.Lines.{refusedWord, linesOf}
 

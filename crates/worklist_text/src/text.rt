@@ -1,7 +1,7 @@
 // Writes the text that `worklist` prints, as bytes: decimal numbers, lines, `refused n`.
-use work_records::WIDTH;
-use work_records::WorkRecord;
-use work_records::record_at;
+use cell_pairs::WIDTH;
+use cell_pairs::WorkRecord;
+use cell_pairs::record_at;
 ghost use mathlib.Core.List.{[], _∷_, _++_};
 ghost use Prim.Native.Nat.{_+_, _*_, _≤_, _<_};
 ghost use lib.ListN.{length};

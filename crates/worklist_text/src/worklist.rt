@@ -1,6 +1,7 @@
 // From the bytes of a job to the text that `worklist` prints.
 use crate::text::put_lines;
 use crate::text::put_refused;
+use cell_pairs::WIDTH;
 use function::Element;
 use function::MOST_DIM;
 use grid::Sizes;
@@ -14,7 +15,6 @@ use numbers::wide;
 use planning::Assembly;
 use planning::plan;
 use plans::Planned;
-use work_records::WIDTH;
 ghost use mathlib.Core.Path.{_≡_};
 ghost use Prim.Native.Nat.{_*_, _≤_, min};
 ghost use lib.ListN.{length, take};

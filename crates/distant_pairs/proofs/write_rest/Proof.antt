@@ -3,7 +3,7 @@ use Prim.Native.Nat.{_-_}
 use native.Mathlib.Omega.{arith}
 use lib.ListN.{length}
 use Rattle.lists.specs.Writes.{Turns, turns-start, turns-room, turns-turn, turns-done, wrote-length}
-use Rattle.work_records.specs.Laws.{records}
+use Rattle.cell_pairs.specs.RecordsFacts.{records}
 use Rattle.cells_by_key.specs.Groups.{part}
 use Rattle.cell_pairs.specs.WorkList.{distantColours}
 use Rattle.distant_pairs.specs.Distant.{distantRest}

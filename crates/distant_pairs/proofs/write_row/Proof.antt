@@ -2,7 +2,7 @@
 use Prim.Native.Nat.{_-_}
 use native.Mathlib.Omega.{arith}
 use Rattle.lists.specs.Writes.{Each, each-start, each-in, each-room, each-turn, each-done, wrote-length}
-use Rattle.work_records.specs.Laws.{records}
+use Rattle.cell_pairs.specs.RecordsFacts.{records}
 use Rattle.cell_pairs.specs.WorkList.{distantPair}
 use Rattle.distant_pairs.specs.Distant.{distantRow}
 use Rattle.distant_pairs.specs.Facts.{corners}

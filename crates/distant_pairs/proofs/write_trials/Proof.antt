@@ -4,7 +4,7 @@ use native.Mathlib.Omega.{arith}
 use lib.ListN.{length}
 use Rattle.lists.specs.Range.{batch}
 use Rattle.lists.specs.Writes.{Turns, turns-start, turns-room, turns-turn, turns-done, wrote-length}
-use Rattle.work_records.specs.Laws.{records}
+use Rattle.cell_pairs.specs.RecordsFacts.{records}
 use Rattle.cells_by_key.specs.GroupsFacts.{cells-batch}
 use Rattle.cell_pairs.specs.WorkList.{distantBatch}
 use Rattle.distant_pairs.specs.Distant.{distantTrials}

@@ -4,7 +4,7 @@ use mathlib.Core.Path.{sym, ap, _∙_}
 use Prim.Native.Nat.{ℕ, _*_}
 use borrow.Author.Tests.{not-true, not-false}
 use Rattle.lists.specs.Bool.{_also_, end, turned, passed}
-use Rattle.work_records.specs.Records.{recordAt}
+use Rattle.cell_pairs.specs.Records.{recordAt}
 use Rattle.boundary_assemblers.specs.RunFacts.{ranges, lengths, record-fits, run-fails, none-left, record-fails, all-pass}
 use Rattle.boundary_assemblers.specs.Forms.{runOf}
 use borrow.Author.Needs.{needs}

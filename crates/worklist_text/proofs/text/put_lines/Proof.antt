@@ -2,7 +2,7 @@
 use Prim.Native.Nat.{_-_, _/_}
 use lib.ListN.{length}
 use Rattle.lists.specs.Writes.{numbers, Turns, turns-start, turns-room, turns-turn, turns-done, wrote-length}
-use Rattle.work_records.specs.Records.{width, recordAt}
+use Rattle.cell_pairs.specs.Records.{width, recordAt}
 use Rattle.worklist_text.specs.Text.{lineOf}
 use Rattle.worklist_text.specs.Lines.{linesOf}
 use borrow.Author.Needs.{needs}

@@ -1,0 +1,149 @@
+-- The counting theorem: each ordered pair of cells stands on the work list exactly once; N of them are distant and come first, S are touching and
+-- follow, and S + N = C·C. Assumes nothing.
+use Prim.Native.Nat.{ℕ, _+_, _-_, _*_, _<_, _≤_}
+use native.Mathlib.Nat.{add-comm}
+use native.Mathlib.Omega.{arith}
+use mathlib.Core.Path.{_≡_, sym, ap, ap₂, subst, _∙_}
+use mathlib.Core.Logic.{⊎-elim}
+use mathlib.Core.Bool.{true, not}
+use mathlib.Core.List.{List, _++_}
+use lib.ListN.{length, getD, length-append, List·getD-append}
+use lib.Seq.{getD-append-add}
+use lib.Dec.{ltb}
+use borrow.Author.Tests.{eqb-true, ltb-true, not-true}
+use Rattle.lists.specs.Bool.{_and_, _or_, true≢false, every-at, and-right, or-cases}
+use Rattle.lists.specs.Bounded.{all, all-at, lt-or-le}
+use Rattle.lists.specs.Range.{range, length-range, all-in-at}
+use Rattle.lists.specs.Total.{gate, count, total-append, total-add, total-ext, total-length, total-const, count-split, gate-split}
+use Rattle.grid.specs.Shape.{share}
+use Rattle.numbers.specs.Ranges.{below-at}
+use Rattle.grid.specs.Mesh.{Mesh, cellsRight, verticesRight}
+use Rattle.cell_pairs.specs.declared.WorkRecord.{WorkRecord}
+use Rattle.cell_pairs.specs.Records.{rec, patternCount}
+use Rattle.cell_pairs.specs.Patterns.{pattern, patternsRight}
+use Rattle.cell_pairs.specs.WorkList.{distantPart, touchingPart, workList, sharingPairs, distantPairs}
+use Rattle.cell_pairs.specs.WorkRecords.{ofPair, Distant, Touching, Right}
+use Rattle.cell_pairs.specs.WorkRecordsFacts.{distant-each, touching-each}
+use Rattle.cell_pairs.specs.CountingFacts.{distant-total, touching-total, pair-total}
+
+-- ---- what the theorem asks of mesh, batch size and colours
+
+pub record Countable (m : Mesh) (B : ℕ) (ts rs : List ℕ) : Type 0 where
+  -- a batch holds a cell
+  pub batch : 0 < B
+  -- each cell has a colour, for the test and for the trial element
+  pub testColours : length ts ≡ m .cells
+  pub trialColours : length rs ≡ m .cells
+  -- each vertex number is below V
+  pub vertices : (k : ℕ) → k < 3 * m .cells → getD (m .cellVertices) k 0 < m .vertices
+  -- each pair that shares a vertex has a pattern of the list
+  pub patterns : (i j : ℕ) → i < m .cells → j < m .cells → share (m .cellVertices) i j ≡ true → pattern (m .cellVertices) i j < patternCount
+
+-- check 7 passes: the patterns are of the list
+pub patterns-known : (C : ℕ) (vs : List ℕ) → patternsRight C vs ≡ true → (i j : ℕ) → i < C → j < C → share vs i j ≡ true → pattern vs i j < patternCount
+unfolding patternsRight
+patterns-known C vs e i j hi hj s =
+    ⊎-elim (λ n. absurd (true≢false (sym s ∙ not-true (share vs i j) n))) (λ l. ltb-true _ _ l)
+    (or-cases (not (share vs i j)) (ltb (pattern vs i j) patternCount)
+    (all-at C (λ j. not (share vs i j) or ltb (pattern vs i j) patternCount) (all-at C (λ i. all C (λ j. not (share vs i j) or ltb (pattern vs i j) patternCount)) e i hi) j hj))
+
+-- checks 1 and 2 pass: each vertex number is below V
+pub vertices-below : (m : Mesh) → cellsRight m ≡ true → verticesRight m ≡ true → (k : ℕ) → k < 3 * m .cells → getD (m .cellVertices) k 0 < m .vertices
+unfolding cellsRight verticesRight
+vertices-below m one two k h =
+    let long : length (m .cellVertices) ≡ 3 * m .cells = eqb-true _ _ (and-right _ _ one) in
+    below-at _ _ (every-at _ two 1) k (omega arith)
+
+-- so planning, past its checks, has all that is asked
+pub countable : (m : Mesh) (B : ℕ) (ts rs : List ℕ) → cellsRight m ≡ true → verticesRight m ≡ true → patternsRight (m .cells) (m .cellVertices) ≡ true
+    → 0 < B → length ts ≡ m .cells → length rs ≡ m .cells → Countable m B ts rs
+countable m B ts rs one two seven h test trial =
+    record {
+      batch = h;
+      testColours = test;
+      trialColours = trial;
+      vertices = vertices-below m one two;
+      patterns = patterns-known (m .cells) (m .cellVertices) seven;
+    }
+
+-- ---- how many
+
+-- S + N = C·C
+pub split : (m : Mesh) → sharingPairs m + distantPairs m ≡ m .cells * m .cells
+unfolding sharingPairs distantPairs
+split m =
+    let C = m .cells in
+    sym (total-add _ _ (range C))
+    ∙ total-ext _ (λ _. C) (λ i. count-split (λ j. share (m .cellVertices) i j) (range C) ∙ length-range C) (range C)
+    ∙ total-const C (range C)
+    ∙ ap (λ (k : ℕ). k * C) (length-range C)
+
+module _ (m : Mesh) (B : ℕ) (ts rs : List ℕ) (h : Countable m B ts rs) where
+  -- N records are distant
+  pub length-distant : length (distantPart m B ts rs) ≡ distantPairs m
+  unfolding distantPairs
+  length-distant = sym (total-length (distantPart m B ts rs)) ∙ distant-total (λ _. 1) m B ts rs (h .batch) (h .testColours) (h .trialColours)
+
+  -- S records are touching
+  pub length-touching : length (touchingPart m) ≡ sharingPairs m
+  unfolding sharingPairs
+  length-touching = sym (total-length (touchingPart m)) ∙ touching-total (λ _. 1) m (h .vertices) (h .patterns)
+
+  -- there are C·C in all
+  pub length-work : length (workList m B ts rs) ≡ m .cells * m .cells
+  unfolding workList
+  length-work = length-append (distantPart m B ts rs) (touchingPart m) ∙ omega (arith, length-distant, length-touching, split m)
+
+  -- ---- each ordered pair once
+
+  -- a pair stands in the distant part once where it shares no vertex, else not at all
+  pub once-distant : (i j : ℕ) → i < m .cells → j < m .cells → count (ofPair i j) (distantPart m B ts rs) ≡ gate (not (share (m .cellVertices) i j)) 1
+  once-distant i j hi hj =
+      distant-total (λ r. gate (ofPair i j r) 1) m B ts rs (h .batch) (h .testColours) (h .trialColours)
+      ∙ pair-total (λ i j. not (share (m .cellVertices) i j)) (m .cells) i j hi hj
+
+  -- and in the touching part the other way round
+  pub once-touching : (i j : ℕ) → i < m .cells → j < m .cells → count (ofPair i j) (touchingPart m) ≡ gate (share (m .cellVertices) i j) 1
+  once-touching i j hi hj =
+      touching-total (λ r. gate (ofPair i j r) 1) m (h .vertices) (h .patterns) ∙ pair-total (λ i j. share (m .cellVertices) i j) (m .cells) i j hi hj
+
+  -- each ordered pair of cells stands on the work list exactly once
+  pub once : (i j : ℕ) → i < m .cells → j < m .cells → count (ofPair i j) (workList m B ts rs) ≡ 1
+  unfolding workList
+  once i j hi hj =
+      total-append (λ r. gate (ofPair i j r) 1) (distantPart m B ts rs) (touchingPart m)
+      ∙ ap₂ _+_ (once-distant i j hi hj) (once-touching i j hi hj)
+      ∙ add-comm (gate (not (share (m .cellVertices) i j)) 1) (gate (share (m .cellVertices) i j) 1)
+      ∙ gate-split (share (m .cellVertices) i j) 1
+
+  -- ---- each record, by its place k on the list
+
+  -- the first N are distant
+  pub record-distant : (k : ℕ) → k < distantPairs m → Distant m (getD (workList m B ts rs) k (rec 0 0 0))
+  unfolding workList
+  record-distant k l =
+      let inside : k < length (distantPart m B ts rs) = omega (arith, length-distant) in
+      subst (Distant m) (sym (List·getD-append (distantPart m B ts rs) (touchingPart m) (rec 0 0 0) k inside))
+      (all-in-at (Distant m) (distantPart m B ts rs) (distant-each m B ts rs) (rec 0 0 0) k inside)
+
+  -- those that follow are touching
+  pub record-touching : (k : ℕ) → distantPairs m ≤ k → k < m .cells * m .cells → Touching m (getD (workList m B ts rs) k (rec 0 0 0))
+  unfolding workList
+  record-touching k l u =
+      let far : List WorkRecord = distantPart m B ts rs in
+      let n : ℕ = k - length far in
+      let place : length far + n ≡ k = omega (arith, length-distant) in
+      let inside : n < length (touchingPart m) = omega (arith, length-distant, length-touching, split m) in
+      subst (λ (i : ℕ). Touching m (getD (far ++ touchingPart m) i (rec 0 0 0))) place
+      (subst (Touching m) (sym (getD-append-add far (touchingPart m) n (rec 0 0 0)))
+      (all-in-at (Touching m) (touchingPart m) (touching-each m) (rec 0 0 0) n inside))
+
+  -- so each is of two cells of the mesh, and right at its place
+  pub records-right : (k : ℕ) → k < m .cells * m .cells → Right m k (getD (workList m B ts rs) k (rec 0 0 0))
+  records-right k u =
+      record {
+        testCell = ⊎-elim (λ l. record-distant k l .testCell) (λ l. record-touching k l u .testCell) (lt-or-le k (distantPairs m));
+        trialCell = ⊎-elim (λ l. record-distant k l .trialCell) (λ l. record-touching k l u .trialCell) (lt-or-le k (distantPairs m));
+        distant = λ l. record-distant k l;
+        touching = λ l. record-touching k l u;
+      }

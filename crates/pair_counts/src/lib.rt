@@ -1,1 +1,0 @@
-// The counting theorem on the work list: specs/ alone.

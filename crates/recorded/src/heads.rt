@@ -1,0 +1,74 @@
+// The head of a recorded case: what planning is given, and the digits of its second word.
+use crate::digit_at;
+use crate::finite_of;
+use crate::four_at;
+use crate::read_text;
+use crate::read_word;
+use function::Element;
+use grid::Sizes;
+use integrands::Integrand;
+use integrands::Term;
+use planning::Assembly;
+ghost use Prim.Native.Nat.{_≤_};
+
+pub struct Head {
+    pub sizes: Sizes,
+    pub assembly: Assembly,
+    pub forms: [u8; 17],
+}
+
+// An element, its three numbers from digit i on.
+fn element_at(forms: &[u8; 17], i: usize) -> Element
+    requires { ⌜ i ≤ 13 ⌝ }
+{
+    Element {
+        a: digit_at(forms, i) as u32,
+        b: digit_at(forms, i + 1) as u32,
+        c: digit_at(forms, i + 2) as u32,
+    }
+}
+
+// A term, its form and kind from digit i on.
+fn term_at(forms: &[u8; 17], i: usize, factor: f64) -> Term
+    requires { ⌜ i ≤ 14 ⌝ }
+{
+    let kind = digit_at(forms, i + 1) as u32;
+    if digit_at(forms, i) == 0 {
+        return Term::Bare(kind);
+    }
+    Term::Scaled(factor, kind)
+}
+
+// The two factors are the next words.
+fn read_integrand(fd: i32, forms: &[u8; 17]) -> Integrand {
+    let first = finite_of(read_word(fd));
+    let second = finite_of(read_word(fd));
+    Integrand {
+        terms: digit_at(forms, 6) as u32,
+        first: term_at(forms, 7, first),
+        second: term_at(forms, 9, second),
+    }
+}
+
+// Sizes, forms and factors.
+pub fn read_head(fd: i32) -> Head {
+    let numbers = read_text(fd);
+    let forms = read_text(fd);
+    let integrand = read_integrand(fd, &forms);
+    let sizes = Sizes {
+        cells: four_at(&numbers, 0) as u32,
+        vertices: four_at(&numbers, 4) as u32,
+        edges: four_at(&numbers, 8) as u32,
+    };
+    let assembly = Assembly {
+        test: element_at(&forms, 0),
+        trial: element_at(&forms, 3),
+        batch: four_at(&numbers, 12) as u32,
+        integrand: integrand,
+    };
+    Head {
+        sizes: sizes,
+        assembly: assembly,
+        forms: forms,
+    }
+}
