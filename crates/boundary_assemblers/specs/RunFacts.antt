@@ -11,7 +11,7 @@ use borrow.Author.Tests.{leb-true, eqb-true, eqb-false, ltb-true, eq-eqb, ne-eqb
 use Rattle.lists.specs.Bool.{_and_, every, every-at, every-fails, every-of, Each, and-left, and-right, or-cases, true≢false}
 use Rattle.lists.specs.Refusals.{refusal, refusal-at, answers, accepted, refused as fails, _then_}
 use Rattle.grid.specs.Mesh.{mostCells}
-use Rattle.numbers.specs.Ranges.{allBelow, within-low, within-high}
+use Rattle.numbers.specs.Ranges.{allBelow, within-high}
 use Rattle.function.specs.Elements.{mostDim, dimsRight}
 use Rattle.integrands.specs.Terms.{integrandRight}
 use Rattle.cell_pairs.specs.declared.WorkRecord.{WorkRecord}
@@ -26,11 +26,8 @@ mostPairs = mostCells * mostCells
 
 -- 21: the ranges
 pub record Ranges (r : Run) : Type 0 where
-  pub cells-low : 1 ≤ r .numbers .cells
   pub cells : r .numbers .cells ≤ mostCells
-  pub test-low : 1 ≤ testDim r
   pub test : testDim r ≤ mostDim
-  pub trial-low : 1 ≤ trialDim r
   pub trial : trialDim r ≤ mostDim
   pub integrand : integrandRight (r .numbers .integrand) ≡ true
   -- C·C, and C·dim
@@ -46,11 +43,8 @@ ranges r h =
     let m = within-high _ _ _ (and-left _ _ dims) in
     let n = within-high _ _ _ (and-right _ _ dims) in
     record {
-      cells-low = within-low _ _ _ (every-at _ h 0);
       cells = many;
-      test-low = within-low _ _ _ (and-left _ _ dims);
       test = m;
-      trial-low = within-low _ _ _ (and-right _ _ dims);
       trial = n;
       integrand = every-at _ h 4;
       all-pairs = mul-le-mul many many;

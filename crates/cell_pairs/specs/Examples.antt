@@ -1,11 +1,10 @@
 -- M4, M5 and M7 of the paper, as records. (The text that `worklist` prints of them is in `worklist_text`.) Assumes nothing.
 use Prim.Native.Nat.{ℕ}
 use mathlib.Core.Path.{refl}
-use mathlib.Core.Bool.{false}
 use mathlib.Core.List.{List, [], _∷_}
 use Rattle.lists.specs.Examples.{Example, example, Holds}
 use Rattle.grid.specs.Mesh.{Mesh}
-use Rattle.grid.specs.Examples.{M, M7-turned, M7-twice}
+use Rattle.grid.specs.Examples.{M, M7-twice}
 use Rattle.function.specs.Elements.{Space}
 use Rattle.function.specs.Colours.{colourList}
 use Rattle.function.specs.Examples.{element, opened-function}
@@ -45,14 +44,7 @@ pub M5-records-holds : Holds M5-records
 unfolding opened-cell-pairs
 M5-records-holds = refl
 
--- M7: a = 1, batch 1. Turned, a pattern is outside the list; twice, four records of 27
-abbrev pub M7-pattern : Example
-M7-pattern = example (patternsRight 2 (M7-turned .cellVertices)) false
-
-pub M7-pattern-holds : Holds M7-pattern
-unfolding opened-cell-pairs
-M7-pattern-holds = refl
-
+-- M7, twice: a = 1, batch 1: four records of 27
 abbrev pub M7-records : Example
 M7-records = example (records M7-twice 1) (rec 27 0 0 ∷ rec 27 0 1 ∷ rec 27 1 0 ∷ rec 27 1 1 ∷ [])
 

@@ -12,9 +12,8 @@ use lib.Dec.{eqb, ltb}
 use borrow.Author.Tests.{eqb-true, eq-eqb, ne-eqb}
 use Rattle.lists.specs.Bool.{true≢false, cases, and-left, and-right, and-both}
 use Rattle.lists.specs.Bounded.{least-is, least-le, least-holds, least-before, lt-or-le}
-use Rattle.function.specs.Elements.{dim}
+use Rattle.function.specs.Elements.{dim, Space}
 use Rattle.function.specs.declared.Element.{Element}
-use Rattle.function.specs.Elements.{Space}
 use Rattle.dof_numbering.specs.Numbering.{byPlace, dimensionOf, entityOf, dofsOn, sameEntity, firstVisit, isFirst, free, start, upFrom, ownersOn, dofsTo, ownersTo}
 
 -- ---- the two runs of numbers

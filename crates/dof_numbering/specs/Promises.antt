@@ -16,8 +16,7 @@ use Rattle.lists.specs.Bool.{cases}
 use Rattle.lists.specs.Bounded.{lt-or-le, eq-or-ne}
 use Rattle.lists.specs.Stores.{each-append}
 use Rattle.grid.specs.Shape.{entity}
-use Rattle.function.specs.Elements.{dim}
-use Rattle.function.specs.Elements.{Space}
+use Rattle.function.specs.Elements.{dim, Space}
 use Rattle.dof_numbering.specs.Numbering.{dimensionOf, entityOf, dofsOn, sameEntity, firstVisit, isFirst, free, start, upFrom, ownersOn, dofsTo, ownersTo, dofsBefore, dofList, ownerList, dofCount}
 use Rattle.dof_numbering.specs.Facts.{length-upFrom, length-ownersOn, getD-upFrom, same-dimension, same-number, same-dofs, first-le, first-meets, first-is, start-below, start-first, dofs-at, length-next, length-mono, length-dofs, free-le-length, length-owners, numbers-differ, starts-agree, number-used}
 

@@ -16,9 +16,8 @@ use Rattle.lists.specs.Bool.{true≢false, cases}
 use Rattle.lists.specs.Stores.{sets-append, sets-more, sets-all, sets-front}
 use Rattle.grid.specs.Shape.{entity}
 use Rattle.grid.specs.Mesh.{mostCells, mostVertices, mostEdges}
-use Rattle.function.specs.Elements.{mostDim, dim}
+use Rattle.function.specs.Elements.{mostDim, dim, Space}
 use Rattle.function.specs.declared.Element.{Element}
-use Rattle.function.specs.Elements.{Space}
 use Rattle.dof_numbering.specs.Numbering.{byPlace, dimensionOf, entityOf, dofsOn, sameEntity, firstVisit, isFirst, free, start, upFrom, ownersOn, dofsTo, ownersTo, dofList, ownerList, dofCount}
 use Rattle.dof_numbering.specs.Facts.{length-upFrom, length-ownersOn, same-dimension, same-number, same-of, first-le, first-meets, first-first, first-old, free-step, free-stays, start-first, start-below, length-next, length-mono, length-dofs, free-le-length, length-owners}
 

@@ -9,8 +9,7 @@ use Rattle.lists.specs.Refusals.{Check, check, refusal}
 use Rattle.grid.specs.Mesh.{Mesh, meshChecks}
 use Rattle.numbers.specs.Ranges.{within}
 use Rattle.function.specs.declared.Element.{Element}
-use Rattle.function.specs.Elements.{dim, dimsRight}
-use Rattle.function.specs.Elements.{Space}
+use Rattle.function.specs.Elements.{dim, dimsRight, Space}
 use Rattle.dof_numbering.specs.Numbering.{dofList, dofCount, ownerList}
 use Rattle.function.specs.Colours.{colourList}
 use Rattle.integrands.specs.declared.Integrand.{Integrand}

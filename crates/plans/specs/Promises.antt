@@ -10,8 +10,7 @@ use lib.Seq.{drop-at}
 use Rattle.lists.specs.Total.{count}
 use Rattle.grid.specs.Facts.{vertices-differ, edges-differ}
 use Rattle.function.specs.declared.Element.{Element}
-use Rattle.function.specs.Elements.{dim}
-use Rattle.function.specs.Elements.{Space}
+use Rattle.function.specs.Elements.{dim, Space}
 use Rattle.dof_numbering.specs.Numbering.{dimensionOf, entityOf, dofsOn, dofsBefore, sameEntity, dofList, dofCount, ownerList}
 use Rattle.dof_numbering.specs.Promises.{dof-list-length, dof-below, dof-count-le, number-written, cell-numbers-differ, shared-numbers, number-below, owner-names, owner-list-length}
 use Rattle.function.specs.Colours.{sharing, colourList}

@@ -11,8 +11,7 @@ use lib.Dec.{ltb}
 use borrow.Author.Tests.{lt-ltb}
 use Rattle.lists.specs.Bounded.{all-of}
 use Rattle.numbers.specs.Ranges.{allBelow}
-use Rattle.function.specs.Elements.{dim}
-use Rattle.function.specs.Elements.{Space}
+use Rattle.function.specs.Elements.{dim, Space}
 use Rattle.dof_numbering.specs.Numbering.{dofList, dofCount}
 use Rattle.dof_numbering.specs.Promises.{dof-below}
 use Rattle.runs.specs.Runs.{cellDofs}

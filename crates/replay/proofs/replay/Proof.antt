@@ -1,5 +1,5 @@
 -- `replay::replay` meets its contract: where planning refuses nothing is played; else what the calls leave is the machine's, by the third property. Assumes nothing.
-use mathlib.Core.Path.{sym, ap, _∙_}
+use mathlib.Core.Path.{sym, _∙_}
 use Rattle.replay.specs.Laws.{count-room, finished-refused, finished-begun, finished-parts}
 use borrow.Author.Needs.{needs}
 use Rattle.replay.proofs.replay.Statement.{statement}
