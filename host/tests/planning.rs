@@ -74,43 +74,74 @@ fn mesh_m_with_dofs_on_vertices() {
     assert_eq!(lists.trial_dofs, lists.test_dofs);
     assert_eq!(lists.test_colours, [0, 1, 0]);
     assert_eq!(lists.trial_colours, [0, 1, 0]);
-    let owners: Vec<u32> = (0..7).flat_map(|v| [0, v, 0]).chain([BLANK; 6]).collect();
+    let vertices: Vec<(u32, u32)> = (0..7).map(|v| (0, v)).collect();
+    let owners = one_on_each(&vertices, 6);
     assert_eq!(lists.test_owners, owners);
     assert_eq!(lists.trial_owners, owners);
-    let work = [
-        [255, 2, 0],
-        [255, 0, 2],
-        [255, 2, 1],
-        [255, 1, 2],
-        [11, 0, 1],
-        [15, 1, 0],
-        [27, 0, 0],
-        [27, 1, 1],
-        [27, 2, 2],
-    ];
-    assert_eq!(lists.work, work.concat());
+    let distant = [[255, 2, 0], [255, 0, 2], [255, 2, 1], [255, 1, 2]];
+    assert_eq!(lists.work, with_touching(distant));
+}
+
+/// M's touching records, the same whatever the elements and the batch size.
+const TOUCHING: [[u32; 3]; 5] = [[11, 0, 1], [15, 1, 0], [27, 0, 0], [27, 1, 1], [27, 2, 2]];
+
+/// The list of M with these distant records.
+fn with_touching(distant: [[u32; 3]; 4]) -> Vec<u32> {
+    [distant.concat(), TOUCHING.concat()].concat()
+}
+
+/// The owner records of DOFs, one on each (dimension, entity), and a tail of that length.
+fn one_on_each(entities: &[(u32, u32)], tail: usize) -> Vec<u32> {
+    let records = entities.iter().flat_map(|&(d, x)| [d, x, 0]);
+    records.chain(vec![BLANK; tail]).collect()
 }
 
 #[test]
-fn mesh_m_with_other_elements() {
+fn dofs_on_vertices_beside_dofs_on_vertices_and_edges() {
     let quadratic = Element { a: 1, b: 1, c: 0 };
+    let (numbers, lists) = planned(&mesh_m(), VERTEX_ELEMENT, quadratic, 2, SINGLE_LAYER);
+    assert_eq!((numbers.rows, numbers.columns), (7, 15));
+    assert_eq!((numbers.test, numbers.trial), (VERTEX_ELEMENT, quadratic));
+    assert_eq!(lists.test_dofs, [0, 1, 2, 1, 3, 2, 4, 5, 6]);
+    let dofs = [0, 1, 2, 3, 4, 5, 1, 6, 2, 7, 3, 8, 9, 10, 11, 12, 13, 14];
+    assert_eq!(lists.trial_dofs, dofs);
+    assert_eq!(lists.test_colours, [0, 1, 0]);
+    assert_eq!(lists.trial_colours, [0, 1, 0]);
+    let vertices: Vec<(u32, u32)> = (0..7).map(|v| (0, v)).collect();
+    assert_eq!(lists.test_owners, one_on_each(&vertices, 6));
+    let first = [(0, 0), (0, 1), (0, 2), (1, 0), (1, 1), (1, 2)];
+    let second = [(0, 3), (1, 3), (1, 4)];
+    let third = [(0, 4), (0, 5), (0, 6), (1, 5), (1, 6), (1, 7)];
+    let met = [&first[..], &second, &third].concat();
+    assert_eq!(lists.trial_owners, one_on_each(&met, 9));
+    let distant = [[255, 2, 0], [255, 0, 2], [255, 2, 1], [255, 1, 2]];
+    assert_eq!(lists.work, with_touching(distant));
+}
+
+#[test]
+fn dofs_inside_beside_dofs_on_vertices() {
     let constant = Element { a: 0, b: 0, c: 1 };
     let integrand = Integrand::two(Term::Scaled(-2.5, 3), Term::Bare(4));
-    let (numbers, lists) = planned(&mesh_m(), quadratic, constant, 65_535, integrand);
-    assert_eq!((numbers.rows, numbers.columns), (15, 3));
+    let (numbers, lists) = planned(&mesh_m(), constant, VERTEX_ELEMENT, 65_535, integrand);
+    assert_eq!((numbers.rows, numbers.columns), (3, 7));
     assert_eq!(numbers.integrand, integrand);
-    assert_eq!((numbers.test, numbers.trial), (quadratic, constant));
-    let dofs = [0, 1, 2, 3, 4, 5, 1, 6, 2, 7, 3, 8, 9, 10, 11, 12, 13, 14];
-    assert_eq!(lists.test_dofs, dofs);
-    assert_eq!(lists.trial_dofs, [0, 1, 2]);
-    assert_eq!(lists.trial_colours, [0, 0, 0]);
-    assert_eq!(lists.trial_owners, [2, 0, 0, 2, 1, 0, 2, 2, 0]);
+    assert_eq!((numbers.test, numbers.trial), (constant, VERTEX_ELEMENT));
+    assert_eq!(lists.test_dofs, [0, 1, 2]);
+    assert_eq!(lists.test_colours, [0, 0, 0]);
+    assert_eq!(lists.trial_colours, [0, 1, 0]);
+    assert_eq!(lists.test_owners, one_on_each(&[(2, 0), (2, 1), (2, 2)], 0));
+    let distant = [[255, 2, 0], [255, 0, 2], [255, 1, 2], [255, 2, 1]];
+    assert_eq!(lists.work, with_touching(distant));
+    let (_, lists) = planned(&mesh_m(), constant, VERTEX_ELEMENT, 2, integrand);
+    let distant = [[255, 0, 2], [255, 1, 2], [255, 2, 0], [255, 2, 1]];
+    assert_eq!(lists.work, with_touching(distant));
 }
 
 #[test]
 fn batch_1_trades_the_first_two_records() {
     let (_, lists) = planned(&mesh_m(), VERTEX_ELEMENT, VERTEX_ELEMENT, 1, SINGLE_LAYER);
-    assert_eq!(lists.work[..6], [255, 0, 2, 255, 2, 0]);
+    let distant = [[255, 0, 2], [255, 2, 0], [255, 2, 1], [255, 1, 2]];
+    assert_eq!(lists.work, with_touching(distant));
 }
 
 #[test]
@@ -124,6 +155,13 @@ fn two_cells_with_the_same_list() {
     };
     let (numbers, lists) = planned(&mesh, VERTEX_ELEMENT, VERTEX_ELEMENT, 1, SINGLE_LAYER);
     assert_eq!((numbers.touching, numbers.distant), (4, 0));
+    assert_eq!((numbers.rows, numbers.columns), (3, 3));
+    assert_eq!(lists.test_dofs, [0, 1, 2, 0, 1, 2]);
+    assert_eq!(lists.test_colours, [0, 1]);
+    assert_eq!(
+        lists.trial_owners,
+        one_on_each(&[(0, 0), (0, 1), (0, 2)], 9)
+    );
     assert_eq!(lists.work, [27, 0, 0, 27, 0, 1, 27, 1, 0, 27, 1, 1]);
 }
 
