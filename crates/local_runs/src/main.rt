@@ -1,11 +1,11 @@
 // Runs the recorded cases of data/cases, each a pair of cells with what is lent for it, and compares every entry of its local matrix by its bits.
 // tools/record_cases.c made the file: a C implementation written from the paper. Its head says how, and what a line holds.
 use integrands::Integrand;
-use integrands::Term;
 use libc::STDOUT_FILENO;
 use recorded::at_end;
 use recorded::digit_at;
 use recorded::finite_of;
+use recorded::read_integrand;
 use recorded::read_text;
 use recorded::read_word;
 use recorded::same_bits;
@@ -41,17 +41,6 @@ fn read_words(fd: i32, words: &mut [u64; 256], lengths: &[u8; 17], i: usize) -> 
 }
 
 // ---- one case
-
-// A term, from its form and kind in the first word, from digit i on, and its factor.
-fn term_at(head: &[u8; 17], i: usize, factor: f64) -> Term
-    requires { ⌜ i ≤ 14 ⌝ }
-{
-    let kind = digit_at(head, i + 1) as u32;
-    if digit_at(head, i) == 0 {
-        return Term::Bare(kind);
-    }
-    Term::Scaled(factor, kind)
-}
 
 // Whether the entries are the recorded ones, all m·n of them.
 fn same_entries(entries: &[f64; 100], m: usize, n: usize, words: &[u64]) -> bool
@@ -229,22 +218,11 @@ fn agrees(
     )
 }
 
-// The integrand: its terms stand in the first word, and the next two words are the factors.
-fn read_integrand(fd: i32, head: &[u8; 17]) -> Integrand {
-    let first = finite_of(read_word(fd));
-    let second = finite_of(read_word(fd));
-    Integrand {
-        terms: digit_at(head, 1) as u32,
-        first: term_at(head, 2, first),
-        second: term_at(head, 4, second),
-    }
-}
-
 // Reads a case whole and runs it.
 fn case_agrees(fd: i32) -> bool {
     let head = read_text(fd);
     let lengths = read_text(fd);
-    let f = read_integrand(fd, &head);
+    let f = read_integrand(fd, &head, 1);
     let mut test_weights = [0.0; 256];
     let mut trial_weights = [0.0; 256];
     let mut test_table = [0.0; 256];

@@ -39,14 +39,16 @@ fn term_at(forms: &[u8; 17], i: usize, factor: f64) -> Term
     Term::Scaled(factor, kind)
 }
 
-// The two factors are the next words.
-fn read_integrand(fd: i32, forms: &[u8; 17]) -> Integrand {
+// The integrand: how many terms, then the form and kind of each, from digit i on. The two factors are the next words.
+pub fn read_integrand(fd: i32, forms: &[u8; 17], i: usize) -> Integrand
+    requires { ⌜ i ≤ 11 ⌝ }
+{
     let first = finite_of(read_word(fd));
     let second = finite_of(read_word(fd));
     Integrand {
-        terms: digit_at(forms, 6) as u32,
-        first: term_at(forms, 7, first),
-        second: term_at(forms, 9, second),
+        terms: digit_at(forms, i) as u32,
+        first: term_at(forms, i + 1, first),
+        second: term_at(forms, i + 3, second),
     }
 }
 
@@ -54,7 +56,7 @@ fn read_integrand(fd: i32, forms: &[u8; 17]) -> Integrand {
 pub fn read_head(fd: i32) -> Head {
     let numbers = read_text(fd);
     let forms = read_text(fd);
-    let integrand = read_integrand(fd, &forms);
+    let integrand = read_integrand(fd, &forms, 6);
     let sizes = Sizes {
         cells: four_at(&numbers, 0) as u32,
         vertices: four_at(&numbers, 4) as u32,

@@ -3,6 +3,7 @@ mod heads;
 
 pub use heads::Head;
 pub use heads::read_head;
+pub use heads::read_integrand;
 ghost use mathlib.Core.Path.{_≡_};
 ghost use Prim.Native.Nat.{_≤_};
 ghost use lib.ListN.{length};
