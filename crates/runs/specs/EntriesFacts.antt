@@ -5,13 +5,20 @@ use native.Mathlib.Nat.{add-zero, zero-mul, add-mul, mul-assoc, one-mul}
 use native.Mathlib.Omega.{arith}
 use mathlib.Core.Path.{_≡_, refl, sym, ap, ap₂, _∙_}
 use mathlib.Core.Bool.{Bool, true, false, not}
-use mathlib.Core.List.{List, [], _∷_, _++_, flatMap, map, append-nil, append-assoc}
+use mathlib.Core.Logic.{⊎-elim}
+use mathlib.Core.List.{List, [], _∷_, _++_, flatMap, map, append-nil, append-assoc, map-append}
 use lib.ListN.{length, getD, take, length-append}
 use lib.Seq.{sets, take-all, getD-append-add}
 use lib.Ieee.{Float}
-use borrow.Author.Tests.{eqb-true}
-use Rattle.lists.specs.Bool.{_and_, every-at, true≢false, and-right}
-use Rattle.lists.specs.Refusals.{refusal-at}
+use lib.Dec.{eqb}
+use borrow.Author.Tests.{eqb-true, eq-eqb}
+use Rattle.lists.specs.Bool.{_and_, every-at, true≢false, cases, and-left, and-right}
+use Rattle.lists.specs.Bounded.{some-at}
+use Rattle.lists.specs.Total.{total, gate, count-split}
+use Rattle.numbers.specs.Ranges.{within-low}
+use Rattle.grid.specs.Mesh.{mostCells, cellsRight}
+use Rattle.grid.specs.Shape.{entity, has, share}
+use Rattle.lists.specs.Refusals.{refusal, refusal-at}
 use Rattle.lists.specs.Range.{when, flatMap-append, flatMap-one, flatMap-take}
 use Rattle.lists.specs.Stores.{sets-append, sets-all}
 use Rattle.function.specs.Colours.{colourList}
@@ -20,16 +27,17 @@ use Rattle.lent_numbers.specs.Lent.{Touching}
 use Rattle.cell_pairs.specs.declared.WorkRecord.{WorkRecord}
 use Rattle.cell_pairs.specs.Records.{rec}
 use Rattle.cell_pairs.specs.WorkList.{touchingPart, distantPart, workList, distantPairs, sharingPairs}
-use Rattle.cell_pairs.specs.Counting.{split, length-distant, length-touching, record-touching}
+use Rattle.cell_pairs.specs.WorkRecords.{ofPair}
+use Rattle.cell_pairs.specs.Counting.{split, length-distant, length-touching, once-touching, record-touching}
 use Rattle.scatter.specs.AddingFacts.{length-localRows, length-localColumns, length-localValues}
 use Rattle.plans.specs.Planning.{Planning, Lists, testSpace, trialSpace, workRecords}
 use Rattle.plans.specs.Accepted.{Accepted, counted}
-use Rattle.runs.specs.Runs.{EntryLists, entryLists, accepted, answered}
+use Rattle.runs.specs.Runs.{EntryLists, entryLists, Answer, accepted, refused, answered}
 use Rattle.runs.specs.CellDofs.{cell-fits, length-cell-is}
 use Rattle.runs.specs.Calls.{Call, looks, addsDistant, addsTouching, addsEntries}
 use Rattle.runs.specs.Machine.{Machine, machineAlong, machineOf, State, listsSized, callChecks, addPair, writePair, granted, callRefusal, machineStep}
 use Rattle.runs.specs.Beside.{pairCount}
-use Rattle.runs.specs.Reading.{isAccepted, taken, lentTo, recordRows, recordColumns, callValues, entriesOf}
+use Rattle.runs.specs.Reading.{isAccepted, acceptances, answerAt, taken, lentTo, recordRows, recordColumns, callValues, entriesOf}
 use Rattle.runs.specs.ReadingFacts.{pairsFrom, answersFrom}
 
 -- ---- an accepted call of an entries run is an entries call
@@ -42,13 +50,14 @@ lent-append (addsDistant a ∷ cs) ds = lent-append cs ds
 lent-append (addsTouching a ∷ cs) ds = lent-append cs ds
 lent-append (addsEntries a ∷ cs) ds = ap (λ (ws : List Touching). a ∷ ws) (lent-append cs ds)
 
-map-append : (ws vs : List Touching) → map addsEntries (ws ++ vs) ≡ map addsEntries ws ++ map addsEntries vs
-map-append [] vs = refl
-map-append (w ∷ ws) vs = ap (λ (cs : List Call). addsEntries w ∷ cs) (map-append ws vs)
-
 -- 23 turns any other down
 no-adds : (b : Bool) → b and not true ≡ true → ⊥
 no-adds b h = true≢false (sym (and-right b false h))
+
+-- an acceptance is no refusal
+not-refused : (v : ℕ) → isAccepted (answered v accepted) ≡ true → v ≡ 0
+not-refused zero h = refl
+not-refused (suc v) h = absurd (true≢false (sym h))
 
 module _ (m : Machine) (kind : m .entries ≡ true) where
   entries-only : (c : Call) (s : State)
@@ -82,8 +91,30 @@ module _ (m : Machine) (kind : m .entries ≡ true) where
       let here : List Call = when (isAccepted (answered (callRefusal m c s) (granted m (s .position) c))) (c ∷ []) in
       let later : List Call = taken cs (answersFrom m cs (machineStep m c s)) in
       ap₂ (λ (xs ys : List Call). xs ++ ys) (entries-only c s) (taken-entries cs (machineStep m c s))
-      ∙ sym (map-append (lentTo here) (lentTo later))
+      ∙ sym (map-append addsEntries (lentTo here) (lentTo later))
       ∙ ap (map addsEntries) (sym (lent-append here later))
+
+  -- it was lent lists of the right length
+  pub accepted-sized : (p : ℕ) (M : List Float) (e : EntryLists) (c : Call) → isAccepted (answerAt m p M e c) ≡ true → listsSized m e ≡ true
+  unfolding answerAt callChecks
+  accepted-sized p M e looks h = go (refusal (callChecks m p M e looks)) h
+    where
+      go : (v : ℕ) → isAccepted (answered v (granted m p looks)) ≡ true → listsSized m e ≡ true
+      go zero h = absurd (true≢false (sym h))
+      go (suc v) h = absurd (true≢false (sym h))
+  accepted-sized p M e (addsDistant a) h = absurd (no-adds _ (rw kind at (refusal-at _ (not-refused _ h) refl 2)))
+  accepted-sized p M e (addsTouching a) h = absurd (no-adds _ (rw kind at (refusal-at _ (not-refused _ h) refl 2)))
+  accepted-sized p M e (addsEntries a) h = refusal-at _ (not-refused _ h) refl 0
+
+-- one of some answers is an acceptance
+pub accepted-one : (rs : List Answer) → 0 < acceptances rs → (k : ℕ) × (k < length rs) × (isAccepted (getD rs k (refused 0)) ≡ true)
+unfolding total
+accepted-one [] h = absurd (omega arith)
+accepted-one (r ∷ rs) h = ⊎-elim (λ t. (0, omega arith, t)) (λ f. let k = accepted-one rs (later (isAccepted r) f h) in (suc (k .0), omega (arith, k .1), k .2)) (cases (isAccepted r))
+  where
+    later : (b : Bool) → b ≡ false → 0 < gate b 1 + acceptances rs → 0 < acceptances rs
+    later true f l = absurd (true≢false f)
+    later false f l = omega arith
 
 -- entries calls leave the matrix
 pub entries-keep : (m : Machine) (ws : List Touching) (k : ℕ) (M : List Float) → pairsFrom (addPair m) k (map addsEntries ws) M ≡ M
@@ -223,6 +254,16 @@ module _ {x : Planning} {l : Lists} (ok : Accepted x l) where
 
   pub touching-long : length T + N ≡ pairCount x
   touching-long = omega (arith, long, split (x .mesh))
+
+  -- a cell touches itself
+  pub some-touching : 0 < length T
+  unfolding share has cellsRight
+  some-touching =
+      let C : ℕ = x .mesh .cells in
+      let inside : 0 < C = within-low 1 mostCells C (and-left _ _ (ok .cells)) in
+      let l = x .mesh .cellVertices in
+      let itself : share l 0 0 ≡ true = some-at 3 (λ p. has l 0 (entity l 0 p)) 0 (omega arith) (some-at 3 (λ p. eqb (entity l 0 p) (entity l 0 0)) 0 (omega arith) (eq-eqb (entity l 0 0) (entity l 0 0) refl)) in
+      omega (arith, once-touching (x .mesh) (x .batch) _ _ (counted ok) 0 0 inside inside, ap (λ (b : Bool). gate b 1) itself, count-split (ofPair 0 0) T)
 
   -- 21 passes: the lists have room for the entries of all touching records
   lists-long : (e : EntryLists) → listsSized m e ≡ true

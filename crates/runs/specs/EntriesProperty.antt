@@ -19,9 +19,9 @@ use Rattle.runs.specs.Calls.{Call, looks, addsEntries, Progress, callAll
 use Rattle.runs.specs.Machine.{machineAlong, machineOf, listsSized, addPair, writePair, fresh, machineRun}
 use Rattle.runs.specs.Beside.{runAt, embed}
 use Rattle.runs.specs.Listed.{planIn, machine-beside, machine-between}
-use Rattle.runs.specs.Reading.{acceptances, taken, lentTo, answerAt, recordRows, recordColumns, callValues, entriesOf}
+use Rattle.runs.specs.Reading.{isAccepted, acceptances, taken, lentTo, answerAt, recordRows, recordColumns, callValues, entriesOf}
 use Rattle.runs.specs.ReadingFacts.{reading, pairsFrom, look-answer}
-use Rattle.runs.specs.EntriesFacts.{taken-entries, entries-keep, entries-written, touching-long, entries-all}
+use Rattle.runs.specs.EntriesFacts.{taken-entries, accepted-sized, accepted-one, some-touching, entries-keep, entries-written, touching-long, entries-all}
 
 pub record EntriesProperty (x : Planning) (calls : List Call) (M : List Float) (lists : EntryLists) (q : Progress) : Type 0 where
   -- every answer, the run, every number of the matrix and of the entry lists are those of the machine of the mesh
@@ -35,8 +35,10 @@ pub record EntriesProperty (x : Planning) (calls : List Call) (M : List Float) (
   -- the lists hold, from their front on, row, column and value of the local entries of the first touching records in work order, as many as there are
   -- acceptances, those of record k from what accepted call k was lent; what stands behind them stays
   pub written : q .lists ≡ entriesOf (machineOf x true) (take (acceptances (q .answers)) (touchingPart (x .mesh))) (lentTo (taken calls (q .answers))) lists
-  -- all together: on lists of the right length, where p = C·C, the lists are the entries of the touching records
-  pub all : listsSized (machineOf x true) lists ≡ true → q .run .position ≡ x .mesh .cells * x .mesh .cells
+  -- an accepted call is an entries call
+  pub called : length (lentTo (taken calls (q .answers))) ≡ acceptances (q .answers)
+  -- all together: where p = C·C, the lists are the entries of the touching records
+  pub all : q .run .position ≡ x .mesh .cells * x .mesh .cells
       → (let m = machineOf x true in
       q .lists
       ≡ entryLists (flatMap (recordRows m) (touchingPart (x .mesh))) (flatMap (recordColumns m) (touchingPart (x .mesh)))
@@ -66,6 +68,9 @@ module _ (x : Planning) (l : Lists) (n : PlanNumbers) (e : plan x l ≡ ready n)
       let written : machineRun m calls M lists .lists ≡ entriesOf m (take (length ws) (touchingPart (x .mesh))) ws lists =
       r .lists ∙ ap (λ (cs : List Call). pairsFrom (writePair m) (distantPairs (x .mesh)) cs lists) only
       ∙ entries-written ok lists ws (omega (arith, many, most, r .position, touching-long ok)) in
+      let enough : 0 < length ws → listsSized m lists ≡ true =
+      λ some. (let first = accepted-one answers (omega (arith, many)) in
+      accepted-sized m refl _ M lists _ (ap isAccepted (sym (r .each (first .0) (omega (arith, first .1, r .answered)))) ∙ first .2)) in
       rw same
       (record {
         machine = refl;
@@ -74,7 +79,10 @@ module _ (x : Planning) (l : Lists) (n : PlanNumbers) (e : plan x l ≡ ready n)
         within = most;
         matrix = r .matrix ∙ ap (λ (cs : List Call). pairsFrom (addPair m) (distantPairs (x .mesh)) cs M) only ∙ entries-keep m ws _ M;
         written = rw (← many) written;
-        all = λ sized end. written ∙ entries-all ok lists ws sized (omega (arith, many, end, r .position, touching-long ok));
+        called = many;
+        all = λ end.
+            let whole : length ws ≡ length (touchingPart (x .mesh)) = omega (arith, many, end, r .position, touching-long ok) in
+            written ∙ entries-all ok lists ws (enough (omega (arith, whole, some-touching ok))) whole;
         looked = λ k h c. r .each k h ∙ ap (answerAt m _ M lists) c ∙ look-answer m _ M lists;
         each = r .each;
       })
