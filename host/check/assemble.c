@@ -1,5 +1,5 @@
 /* Whole assemblies on mesh M of the paper and on an octahedron, through include/seivalto.h: it prints what tools/assemble.c prints, which
- * works the same numbers out from the paper, without the library. */
+ * works the same numbers out from the paper, without the library. Sparse rows are held to sums by search, and a line more is printed if they are wrong. */
 #include <inttypes.h>
 #include <stdio.h>
 #include <stdlib.h>
@@ -151,7 +151,7 @@ static void print_bits(double x) {
     else printf("%" PRIu64, bits);
 }
 
-/* ---- the two runs */
+/* ---- the two runs, and sparse rows */
 
 /* A look; at a record an add of the other kind, one with a wrong point count and the right one, after the last both adds. */
 static seivalto_run add_next(seivalto_run run, const plan *p, uint32_t seed, floats matrix) {
@@ -187,6 +187,37 @@ static floats assemble_dense(seivalto_numbers n, const plan *p) {
     return matrix;
 }
 
+static void gather(seivalto_numbers n, entries e) {
+    size_t starts = (size_t)n.rows + 1;
+    uint64_t *row_starts = room(starts, sizeof(uint64_t));
+    numbers columns = new_numbers(e.columns.length);
+    floats values = new_floats(e.values.length);
+    seivalto_gathered gathered =
+        seivalto_sparse_rows(LENT(e.rows), LENT(e.columns), LENT(e.values), n.rows, n.columns, row_starts, starts, LENT(columns), LENT(values));
+    uint64_t at = 0;
+    int right = gathered.refusal == 0;
+    for (uint32_t row = 0; row < n.rows; row++) {
+        right &= row_starts[row] == at;
+        for (uint32_t column = 0; column < n.columns; column++) {
+            double sum = 0.0;
+            int met = 0;
+            for (size_t k = 0; k < e.values.length; k++) {
+                if (e.rows.at[k] != row || e.columns.at[k] != column) continue;
+                sum = met ? sum + e.values.at[k] : e.values.at[k];
+                met = 1;
+            }
+            if (!met) continue;
+            right &= columns.at[at] == column && memcmp(&values.at[at], &sum, sizeof sum) == 0;
+            at++;
+        }
+    }
+    right &= row_starts[n.rows] == at && gathered.kept == at;
+    if (!right) printf("the sparse rows are wrong\n");
+    free(row_starts);
+    free(columns.at);
+    free(values.at);
+}
+
 static void assemble_entries(seivalto_numbers n, const plan *p, floats matrix) {
     size_t count = (size_t)n.touching * TEST_DIM * TRIAL_DIM;
     entries e = {new_numbers(count), new_numbers(count), new_floats(count)};
@@ -205,6 +236,7 @@ static void assemble_entries(seivalto_numbers n, const plan *p, floats matrix) {
         print_bits(e.values.at[k]);
         printf("\n");
     }
+    gather(n, e);
     free(e.rows.at);
     free(e.columns.at);
     free(e.values.at);

@@ -11,8 +11,9 @@
  *   2. seivalto_begin turns the numbers into a run. The host makes a matrix of rows * columns doubles, all 0, or holding what is to be added to.
  *   3. seivalto_look answers the record of the next pair: pattern, test cell, trial cell. Refusal 20 says that none is left: the matrix is finished.
  *   4. At pattern 255 seivalto_add_distant, at any other seivalto_add_touching, is lent the numbers of this pair. Then 3 again.
- * For the touching pairs alone, as a list of entries, 2 is seivalto_begin_entries and 4 is seivalto_add_entries. The plan, which is test_dofs, trial_dofs and
- * work as planning wrote them, is lent to every call of 3 and 4. "What an add is lent", before the adds, says what each lent number is.
+ * For the touching pairs alone, as a list of entries, 2 is seivalto_begin_entries and 4 is seivalto_add_entries; of the finished list seivalto_sparse_rows
+ * writes sparse rows. The plan, which is test_dofs, trial_dofs and work as planning wrote them, is lent to every call of 3 and 4. "What an add is lent", before
+ * the adds, says what each lent number is.
  *
  * Every function answers every argument: bad meshes, elements, lengths, numbers and runs get a refusal. A refused call changes neither the run nor any list
  * that it was lent. That is proved. What no proof can hold is the caller's part:
@@ -21,7 +22,7 @@
  *     only read, during the call;
  *   - the floating-point state is the default one, MXCSR 0x1F80: round to nearest, no flush to zero, no denormals-are-zero, every exception masked. A program
  *     linked with -ffast-math may begin in another one;
- *   - some 200 KiB of stack are free;
+ *   - some 200 KiB of stack are free, for seivalto_sparse_rows some 280;
  *   - of a run only the value last handed back is used, with one matrix. An older value adds a pair again, and nothing can tell;
  *   - the lent numbers mean what "What an add is lent" says. The checks see lengths, numbers that are not finite, and jdets, and nothing else.
  *
@@ -45,7 +46,10 @@
  *       below distant, rows or columns above cells * dim, or a plan, matrix or entry list of the wrong length
  *   22  the record at the run's position has another pattern, a cell not below cells, or a DOF of its cells is not below rows or columns
  *   23  the record, or the run, is of the other kind
- * Planning tests 1 to 8 in this order, the adds and the entries call 21, 20, 22, 23, 9, 10, 11, look 21, 20, 22. */
+ * Sparse rows:
+ *   24  an output list shorter than needed
+ *   25  entry lists of unequal length, a row not below row_count, or a column not below column_count
+ * Planning tests 1 to 8 in this order, the adds and the entries call 21, 20, 22, 23, 9, 10, 11, look 21, 20, 22, sparse rows 25, 24. */
 #ifndef SEIVALTO_H
 #define SEIVALTO_H
 
@@ -145,6 +149,12 @@ typedef struct {
     uint32_t refusal;
     seivalto_run run;
 } seivalto_added;
+
+/* kept: how many values the sparse rows have; 0 where refusal is not 0. */
+typedef struct {
+    uint32_t refusal;
+    uint64_t kept;
+} seivalto_gathered;
 
 /* Plans, and writes seven lists. cell_vertices and cell_edges: three numbers a cell, from 0 on; local edges 0, 1, 2 join local vertices (1,2), (0,2), (0,1).
  * Edge places that join the same two vertices have the same number, all others different ones. Vertices and edges that no cell has are allowed.
@@ -282,6 +292,23 @@ seivalto_added seivalto_add_entries(
     uint32_t *rows, size_t rows_length,
     uint32_t *columns, size_t columns_length,
     double *values, size_t values_length);
+
+/* Writes the entries of a finished entries run as sparse rows. rows, columns and values are the run's three lists, row_count and column_count the rows and
+ * columns of planning's numbers. Row r has the places p of kept_columns and kept_values with row_starts[r] <= p < row_starts[r + 1]; row_starts[row_count] is
+ * kept. Each column that occurs in a row stands there once, no other does, and the columns of a row rise. Entries with the same row and column are added in
+ * run order, starting from the first. These lengths are asked, at the least:
+ *   row_starts                 row_count + 1
+ *   kept_columns, kept_values  kept, which is never more than the number of entries, so that lists of that length always do
+ * What is past the written numbers is left as it was. A value that is alone at its row and column keeps its bits, but a signalling NaN comes out quiet. No
+ * scratch is lent, and the call takes no other memory than the stack. */
+seivalto_gathered seivalto_sparse_rows(
+    const uint32_t *rows, size_t rows_length,
+    const uint32_t *columns, size_t columns_length,
+    const double *values, size_t values_length,
+    uint32_t row_count, uint32_t column_count,
+    uint64_t *row_starts, size_t row_starts_length,
+    uint32_t *kept_columns, size_t kept_columns_length,
+    double *kept_values, size_t kept_values_length);
 
 #ifdef __cplusplus
 }

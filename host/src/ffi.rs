@@ -58,6 +58,12 @@ pub struct CAdded {
     pub run: CRun,
 }
 
+#[repr(C)]
+pub struct CGathered {
+    pub refusal: u32,
+    pub kept: u64,
+}
+
 extern "C" {
     pub fn seivalto_plan(
         cells: u32,
@@ -182,9 +188,26 @@ extern "C" {
         values: *mut f64,
         values_length: usize,
     ) -> CAdded;
+
+    pub fn seivalto_sparse_rows(
+        rows: *const u32,
+        rows_length: usize,
+        columns: *const u32,
+        columns_length: usize,
+        values: *const f64,
+        values_length: usize,
+        row_count: u32,
+        column_count: u32,
+        row_starts: *mut u64,
+        row_starts_length: usize,
+        kept_columns: *mut u32,
+        kept_columns_length: usize,
+        kept_values: *mut f64,
+        kept_values_length: usize,
+    ) -> CGathered;
 }
 
-/// What only a C caller can give: flags that are neither 0 nor 1, and the answer of a refused planning.
+/// What only a C caller can give or see: flags that are neither 0 nor 1, and the whole answer of a refused call.
 #[cfg(test)]
 mod tests {
     use super::*;
@@ -377,5 +400,33 @@ mod tests {
             ),
             (0, 0, 0)
         );
+    }
+
+    #[test]
+    fn refused_sparse_rows_keep_0() {
+        let (rows, columns, values) = ([1], [0], [0.5]);
+        for (row_count, room, expected) in [(2, 1, (0, 1)), (1, 1, (25, 0)), (2, 0, (24, 0))] {
+            let (mut starts, mut kept_columns, mut kept_values) = ([9; 3], [9], [9.0]);
+            // SAFETY: each pointer is an array's, with its length or less, and no two are of one array.
+            let answer = unsafe {
+                seivalto_sparse_rows(
+                    rows.as_ptr(),
+                    1,
+                    columns.as_ptr(),
+                    1,
+                    values.as_ptr(),
+                    1,
+                    row_count,
+                    1,
+                    starts.as_mut_ptr(),
+                    3,
+                    kept_columns.as_mut_ptr(),
+                    room,
+                    kept_values.as_mut_ptr(),
+                    room,
+                )
+            };
+            assert_eq!((answer.refusal, answer.kept), expected);
+        }
     }
 }

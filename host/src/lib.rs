@@ -2,9 +2,10 @@
 //! itself. `include/seivalto.h` says what each argument means, which lengths are asked, and what the lent numbers are: gradient, jacobian, orientation, rules
 //! and how the pattern turns them.
 //!
-//! [`plan`], [`Numbers::begin`], then [`Run::look`] and the add of the record's kind, until look answers [`Refusal::NoRecordLeft`].
+//! [`plan`], [`Numbers::begin`], then [`Run::look`] and the add of the record's kind, until look answers [`Refusal::NoRecordLeft`]. [`sparse_rows`] gathers the
+//! lists of a finished entries run.
 //!
-//! Pointers, lengths and overlap, which the header names among a host's duties, are met by the types. The others stay: some 200 KiB of stack are free; the
+//! Pointers, lengths and overlap, which the header names among a host's duties, are met by the types. The others stay: some 200 KiB of stack are free, for [`sparse_rows`] some 280; the
 //! floating-point state is the default one, round to nearest, no flush to zero, no denormals-are-zero, exceptions masked; of a run only the value last handed
 //! back is used, since a [`Run`] is `Copy` and an older one adds a pair again; the lent numbers mean what the header says.
 mod ffi;
@@ -160,6 +161,31 @@ pub struct EntryLists<'a> {
     pub values: &'a mut [f64],
 }
 
+/// The entries of a finished entries run: its three lists.
+#[derive(Clone, Copy, Debug)]
+pub struct Entries<'a> {
+    pub rows: &'a [u32],
+    pub columns: &'a [u32],
+    pub values: &'a [f64],
+}
+
+/// The lists that [`sparse_rows`] writes. `row_starts` takes one number more than there are rows; the others take as many as values are kept, and lists as long as
+/// the entries always do. What is past the written numbers stays as it was.
+#[derive(Debug)]
+pub struct SparseLists<'a> {
+    pub row_starts: &'a mut [u64],
+    pub columns: &'a mut [u32],
+    pub values: &'a mut [f64],
+}
+
+/// Sparse rows: row r has the places `row_starts[r]..row_starts[r + 1]` of `columns` and `values`.
+#[derive(Clone, Debug, PartialEq)]
+pub struct SparseRows {
+    pub row_starts: Vec<u64>,
+    pub columns: Vec<u32>,
+    pub values: Vec<f64>,
+}
+
 /// Why a call was turned down.
 #[derive(Clone, Copy, Debug, PartialEq, Eq)]
 pub enum Refusal {
@@ -193,9 +219,13 @@ pub enum Refusal {
     Record,
     /// 23: the record, or the run, is of the other kind.
     Kind,
+    /// 24: the length of a list that sparse rows are written into.
+    SparseLength,
+    /// 25: the lengths of entry lists, or a row or column.
+    Entries,
 }
 
-const NUMBERED: [(u32, Refusal); 15] = [
+const NUMBERED: [(u32, Refusal); 17] = [
     (1, Refusal::Cells),
     (2, Refusal::Vertices),
     (3, Refusal::Edges),
@@ -211,6 +241,8 @@ const NUMBERED: [(u32, Refusal); 15] = [
     (21, Refusal::Run),
     (22, Refusal::Record),
     (23, Refusal::Kind),
+    (24, Refusal::SparseLength),
+    (25, Refusal::Entries),
 ];
 
 impl Refusal {
@@ -403,6 +435,54 @@ impl Numbers {
         // SAFETY: the call is lent nothing.
         unsafe { ffi::seivalto_begin_entries(self.into()) }.into()
     }
+
+    /// The entries of a finished entries run as sparse rows, in new lists.
+    pub fn sparse_rows(self, entries: Entries<'_>) -> Result<SparseRows, Refusal> {
+        let mut gathered = SparseRows {
+            row_starts: vec![0; self.rows as usize + 1],
+            columns: vec![0; entries.rows.len()],
+            values: vec![0.0; entries.rows.len()],
+        };
+        let lists = SparseLists {
+            row_starts: &mut gathered.row_starts,
+            columns: &mut gathered.columns,
+            values: &mut gathered.values,
+        };
+        let kept = sparse_rows(entries, self.rows, self.columns, lists)? as usize;
+        gathered.columns.truncate(kept);
+        gathered.values.truncate(kept);
+        Ok(gathered)
+    }
+}
+
+/// Writes the entries as sparse rows, and answers how many values are kept. Entries with the same row and column are added in run order, starting from the
+/// first; the columns of a row rise. `row_count` and `column_count` are the rows and columns of planning's numbers.
+pub fn sparse_rows(
+    entries: Entries<'_>,
+    row_count: u32,
+    column_count: u32,
+    lists: SparseLists<'_>,
+) -> Result<u64, Refusal> {
+    // SAFETY: each pointer and length is a slice's, and the `&mut` slices overlap no other; the library asks nothing more.
+    let gathered = unsafe {
+        ffi::seivalto_sparse_rows(
+            entries.rows.as_ptr(),
+            entries.rows.len(),
+            entries.columns.as_ptr(),
+            entries.columns.len(),
+            entries.values.as_ptr(),
+            entries.values.len(),
+            row_count,
+            column_count,
+            lists.row_starts.as_mut_ptr(),
+            lists.row_starts.len(),
+            lists.columns.as_mut_ptr(),
+            lists.columns.len(),
+            lists.values.as_mut_ptr(),
+            lists.values.len(),
+        )
+    };
+    answered(gathered.refusal, gathered.kept)
 }
 
 fn added(answer: CAdded) -> (Run, Result<(), Refusal>) {
@@ -552,7 +632,10 @@ mod tests {
         let numbers: Vec<u32> = (0..100)
             .filter(|n| Refusal::from_number(*n).is_some())
             .collect();
-        assert_eq!(numbers, [1, 2, 3, 4, 5, 6, 7, 8, 9, 10, 11, 20, 21, 22, 23]);
+        assert_eq!(
+            numbers,
+            [1, 2, 3, 4, 5, 6, 7, 8, 9, 10, 11, 20, 21, 22, 23, 24, 25]
+        );
         for n in numbers {
             assert_eq!(Refusal::from_number(n).map(Refusal::number), Some(n));
         }

@@ -167,7 +167,7 @@ fn two_cells_with_the_same_list() {
 
 #[test]
 fn the_largest_mesh_on_a_small_stack() {
-    on_a_small_stack(|| {
+    on_a_stack_of(200, || {
         let mesh = square(32);
         let (numbers, lists) = planned(
             &mesh,

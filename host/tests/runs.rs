@@ -183,7 +183,7 @@ fn a_whole_entries_run() {
 
 #[test]
 fn the_largest_pairs_on_a_small_stack() {
-    on_a_small_stack(|| {
+    on_a_stack_of(200, || {
         let element = Element { a: 1, b: 2, c: 1 };
         let integrand = Integrand::two(Term::Scaled(-0.5, 3), Term::Scaled(2.0, 1));
         let (n, lists) = planned(&mesh_m(), element, element, 1, integrand);

@@ -12,6 +12,8 @@ use Rattle.plans.specs.declared.PlanNumbers.{PlanNumbers}
 use Rattle.plans.specs.declared.Planned.{Planned}
 use Rattle.plans.specs.declared.Planned.the-variants.{Ready as ready, Refused as not-planned}
 use Rattle.runs.specs.Runs.{Run, Reply, Answer, found, accepted, refused}
+use Rattle.sparse_rows.specs.declared.Gathered.{Gathered}
+use Rattle.sparse_rows.specs.declared.Gathered.the-variants.{Kept as kept, Refused as not-gathered}
 use Rattle.seivalto.specs.declared.CElement.{CElement}
 use Rattle.seivalto.specs.declared.CTerm.{CTerm}
 use Rattle.seivalto.specs.declared.CIntegrand.{CIntegrand}
@@ -21,6 +23,7 @@ use Rattle.seivalto.specs.declared.CRun.{CRun}
 use Rattle.seivalto.specs.declared.CRecord.{CRecord}
 use Rattle.seivalto.specs.declared.CLooked.{CLooked}
 use Rattle.seivalto.specs.declared.CAdded.{CAdded}
+use Rattle.seivalto.specs.declared.CGathered.{CGathered}
 
 -- ---- what a C form stands for
 
@@ -123,3 +126,7 @@ cLooked c g = record { refusal = answerNumber (g .answer); run = moved c (g .run
 
 abbrev pub cAdded : CRun → Reply → CAdded
 cAdded c g = record { refusal = answerNumber (g .answer); run = moved c (g .run .position) }
+
+abbrev pub cGathered : Gathered → CGathered
+cGathered (kept n) = record { refusal = 0; kept = n }
+cGathered (not-gathered v) = record { refusal = v; kept = 0 }

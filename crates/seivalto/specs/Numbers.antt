@@ -12,10 +12,11 @@ use Rattle.plans.specs.Planning.{Planning, Lists, planChecks, planRefusal, plan
 use Rattle.runs.specs.Runs.{Run, Plan, EntryLists, found, accepted, reply, recordOf, advance, lookRefusal, distantRefusal, touchingRefusal, entriesRefusal, look, addDistant, addTouching, addEntries}
 use Rattle.cell_pairs.specs.declared.WorkRecord.{WorkRecord}
 use Rattle.lent_numbers.specs.Lent.{Touching, Distant}
+use Rattle.sparse_rows.specs.Sparse.{SparseLists, valuesAt, keptOf, sparseRefusal, gathered, sparseRows}
 use Rattle.seivalto.specs.declared.CElement.{CElement}
 use Rattle.seivalto.specs.declared.CIntegrand.{CIntegrand}
 use Rattle.seivalto.specs.declared.CRun.{CRun}
-use Rattle.seivalto.specs.Forms.{runOf, cPlanned, cLooked, cAdded}
+use Rattle.seivalto.specs.Forms.{runOf, cPlanned, cLooked, cAdded, cGathered}
 
 -- n is among the numbers
 unfoldable pub among : List ℕ → ℕ → Bool
@@ -30,6 +31,9 @@ looking = 0 ∷ 20 ∷ 21 ∷ 22 ∷ []
 
 abbrev pub adding : List ℕ
 adding = 0 ∷ 9 ∷ 10 ∷ 11 ∷ 20 ∷ 21 ∷ 22 ∷ 23 ∷ []
+
+abbrev pub gathering : List ℕ
+gathering = 0 ∷ 24 ∷ 25 ∷ []
 
 -- ---- what checks answer is 0 or the number of one of them
 
@@ -60,6 +64,10 @@ added-number : (c : CRun) (n : ℕ) (r : Run) → cAdded c (reply n r (advance r
 added-number c zero r = refl
 added-number c (suc n) r = refl
 
+gathered-number : (v n : ℕ) → cGathered (gathered v n) .refusal ≡ v
+gathered-number zero n = refl
+gathered-number (suc v) n = refl
+
 -- ---- each function
 
 pub plan-among : (test trial : CElement) (f : CIntegrand) (x : Planning) (l : Lists) → among planning (cPlanned test trial f (plan x l) .refusal) ≡ true
@@ -82,3 +90,7 @@ add-touching-among c l M a = rw (added-number c (touchingRefusal (runOf c) l M a
 pub add-entries-among : (c : CRun) (l : Plan) (e : EntryLists) (a : Touching) → among adding (cAdded c (addEntries (runOf c) l e a) .refusal) ≡ true
 unfolding addEntries entriesRefusal among allAmong _and_ _or_
 add-entries-among c l e a = rw (added-number c (entriesRefusal (runOf c) l e a) (runOf c)) (refusal-among adding refl _ refl)
+
+pub sparse-rows-among : (e : EntryLists) (R C : ℕ) (l : SparseLists) → among gathering (cGathered (sparseRows e R C l) .refusal) ≡ true
+unfolding sparseRows sparseRefusal among allAmong _and_ _or_
+sparse-rows-among e R C l = rw (gathered-number (sparseRefusal e R C l) (keptOf (valuesAt e) R C)) (refusal-among gathering refl _ refl)

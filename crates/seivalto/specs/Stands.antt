@@ -12,13 +12,14 @@ use Rattle.grid.specs.Mesh.{Mesh}
 use Rattle.cell_pairs.specs.declared.WorkRecord.{WorkRecord}
 use Rattle.plans.specs.Planning.{planningOf, planNumbers}
 use Rattle.runs.specs.Runs.{Run, Plan, EntryLists, Reply, found, accepted, reply, begin, beginEntries, rangesRight, placesRight, planRight, stateChecks, lookRefusal, advance, distantRefusal, touchingRefusal, entriesRefusal}
+use Rattle.sparse_rows.specs.Sparse.{SparseLists, valuesAt, keptOf, sparseRefusal, gathered, sparseRows}
 use Rattle.seivalto.specs.declared.CElement.{CElement}
 use Rattle.seivalto.specs.declared.CIntegrand.{CIntegrand}
 use Rattle.seivalto.specs.declared.CNumbers.{CNumbers}
 use Rattle.seivalto.specs.declared.CRun.{CRun}
 use Rattle.seivalto.specs.declared.CLooked.{CLooked}
 use Rattle.seivalto.specs.declared.CAdded.{CAdded}
-use Rattle.seivalto.specs.Forms.{elementOf, integrandOf, numbersOf, runOf, cNumbers, cRun, cLooked, cAdded}
+use Rattle.seivalto.specs.Forms.{elementOf, integrandOf, numbersOf, runOf, cNumbers, cRun, cLooked, cAdded, cGathered}
 use Rattle.seivalto.specs.Calls.{lookedBy, addedBy}
 
 -- ---- planning and beginning
@@ -84,3 +85,13 @@ no-cell-refused c e =
       touching = λ l M a. out-of-range (runOf c) l _ _ out;
       entries = λ l e a. out-of-range (runOf c) l _ _ out;
     }
+
+-- ---- sparse rows
+
+pub sparse-rows-stand : (e : EntryLists) (R C : ℕ) (l : SparseLists) → (let x = cGathered (sparseRows e R C l) in gathered (x .refusal) (x .kept) ≡ sparseRows e R C l)
+unfolding sparseRows
+sparse-rows-stand e R C l = go (sparseRefusal e R C l) (keptOf (valuesAt e) R C)
+  where
+    go : (v n : ℕ) → (let x = cGathered (gathered v n) in gathered (x .refusal) (x .kept) ≡ gathered v n)
+    go zero n = refl
+    go (suc v) n = refl

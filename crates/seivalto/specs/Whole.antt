@@ -1,6 +1,6 @@
--- Through C: what is promised of planning's answer, and the third property, from that answer on, on any list of calls; and the like of an entries run.
--- Assumes nothing.
-use Prim.Native.Nat.{ℕ, zero, suc}
+-- Through C: what is promised of planning's answer, and the third property, from that answer on, on any list of calls; the like of an entries run, and its
+-- sparse rows. Assumes nothing.
+use Prim.Native.Nat.{ℕ, zero, suc, _*_}
 use native.Mathlib.Omega.{arith}
 use mathlib.Core.Path.{_≡_, refl, sym, ap, _∙_}
 use mathlib.Core.List.{List, [], _∷_, _++_}
@@ -15,6 +15,7 @@ use Rattle.runs.specs.Calls.{Call, looks, addsDistant, addsTouching, addsEntrie
 use Rattle.runs.specs.Listed.{planIn}
 use Rattle.runs.specs.ThirdProperty.{ThirdProperty, third-property}
 use Rattle.runs.specs.EntriesProperty.{EntriesProperty, entries-property}
+use Rattle.sparse_rows.specs.SparseProperty.{SparseProperty, sparse-of}
 use Rattle.seivalto.specs.declared.CElement.{CElement}
 use Rattle.seivalto.specs.declared.CIntegrand.{CIntegrand}
 use Rattle.seivalto.specs.declared.CPlanned.{CPlanned}
@@ -96,3 +97,8 @@ module _ (m : Mesh) (test trial : CElement) (batch : ℕ) (f : CIntegrand) (l : 
     entries-property-in-c =
         let n = planned .numbers in
         rw (calls-stand left calls (cRun n (beginEntries (numbersOf n))) M lists, begin-entries-stands n) (entries-property x l (numbersOf n) (accepted z) calls M lists)
+
+    -- and its sparse rows, where it is finished: p = C·C
+    pub sparse-property-in-c : (let q = progressOf (cCallAll left calls (cRun (planned .numbers) (beginEntries (numbersOf (planned .numbers)))) M lists) in
+        q .run .position ≡ x .mesh .cells * x .mesh .cells → SparseProperty x (numbersOf (planned .numbers)) calls q)
+    sparse-property-in-c = sparse-of x l (numbersOf (planned .numbers)) (accepted z) calls M lists entries-property-in-c

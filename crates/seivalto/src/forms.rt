@@ -1,6 +1,7 @@
 // What the C forms stand for, and the C forms of what the calls answer.
 use crate::CAdded;
 use crate::CElement;
+use crate::CGathered;
 use crate::CIntegrand;
 use crate::CLooked;
 use crate::CNumbers;
@@ -17,9 +18,10 @@ use integrands::Integrand;
 use integrands::Term;
 use plans::PlanNumbers;
 use plans::Planned;
+use sparse_rows::Gathered;
 ghost use mathlib.Core.Path.{_≡_};
 ghost use Rattle.boundary_assemblers.specs.Forms as Inner;
-ghost use Rattle.seivalto.specs.Forms.{elementOf, termOf, integrandOf, numbersOf, runOf, cNumbers, noNumbers, cPlanned, cRecord, noRecord, cLooked, cRun, moved, cAdded};
+ghost use Rattle.seivalto.specs.Forms.{elementOf, termOf, integrandOf, numbersOf, runOf, cNumbers, noNumbers, cPlanned, cRecord, noRecord, cLooked, cRun, moved, cAdded, cGathered};
 
 // ---- what a C form stands for
 
@@ -233,5 +235,20 @@ pub(crate) fn c_added(c: CRun, answer: Added) -> CAdded
                 run: next,
             }
         }
+    }
+}
+
+pub(crate) fn c_gathered(answer: Gathered) -> CGathered
+    ensures { λ r. ⌜ r ≡ cGathered answer ⌝ }
+{
+    match answer {
+        Gathered::Kept(n) => CGathered {
+            refusal: 0,
+            kept: n,
+        },
+        Gathered::Refused(v) => CGathered {
+            refusal: v,
+            kept: 0,
+        },
     }
 }

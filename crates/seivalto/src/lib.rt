@@ -1,6 +1,7 @@
-// The C interface: planning and the calls of a run, for a C or a Rust program to link. `host/include/seivalto.h` declares it.
+// The C interface: planning, the calls of a run and sparse rows, for a C or a Rust program to link. `host/include/seivalto.h` declares it.
 mod adds;
 mod forms;
+mod sparse;
 
 use boundary_assemblers::Run;
 use forms::c_looked;
@@ -94,6 +95,13 @@ pub struct CLooked {
 pub struct CAdded {
     pub refusal: u32,
     pub run: CRun,
+}
+
+// What seivalto_sparse_rows answers: 0 and how many values are kept, or the number of a refusal and 0.
+#[repr(C)]
+pub struct CGathered {
+    pub refusal: u32,
+    pub kept: u64,
 }
 
 // Plans: writes the seven lists, unless a check turns the call down.

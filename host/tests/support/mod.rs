@@ -44,6 +44,21 @@ pub fn mesh_m() -> OwnedMesh {
     }
 }
 
+/// An octahedron: vertices 0 and 1, 2 and 3, 4 and 5 are opposite.
+pub fn octahedron() -> OwnedMesh {
+    OwnedMesh {
+        cells: 8,
+        vertices: 6,
+        edges: 12,
+        cell_vertices: vec![
+            0, 2, 4, 2, 1, 4, 1, 3, 4, 3, 0, 4, 2, 0, 5, 1, 2, 5, 3, 1, 5, 0, 3, 5,
+        ],
+        cell_edges: vec![
+            0, 1, 2, 3, 0, 4, 5, 3, 6, 1, 5, 7, 8, 9, 2, 9, 10, 4, 10, 11, 6, 11, 8, 7,
+        ],
+    }
+}
+
 /// A square of n times n squares, each cut into two triangles.
 pub fn square(n: u32) -> OwnedMesh {
     let at = |i: u32, j: u32| i + (n + 1) * j;
@@ -166,10 +181,10 @@ pub struct Widths {
 /// Those of kinds 0 and 4.
 pub const NARROW: Widths = Widths { k: 1, d: 1 };
 
-/// Runs on a stack of 200 KiB.
-pub fn on_a_small_stack(run: impl FnOnce() + Send + 'static) {
+/// Runs on a stack of so many KiB.
+pub fn on_a_stack_of(kib: usize, run: impl FnOnce() + Send + 'static) {
     let thread = std::thread::Builder::new()
-        .stack_size(200 * 1024)
+        .stack_size(kib * 1024)
         .spawn(run);
     thread.expect("a thread").join().expect("the run is good");
 }
