@@ -1,23 +1,26 @@
-// Records the lists of calls that the program replay_runs plays, each with what it must answer and leave. Written from the paper alone: it plans a mesh, plays
-// the calls by the checks in their order, and sums one local entry at a time, with one rounding per operation. Compile without contraction of products and
-// sums, and run, in the top folder:
+// Records the lists of calls that the program replay_runs plays, each with what it must answer and leave, and the sparse rows that the entries give. Written
+// from the paper alone, and the sparse rows from the request for them: it plans a mesh, plays the calls by the checks in their order, and sums one local entry
+// at a time, with one rounding per operation; for each row and column it goes through all entries. Compile without contraction of products and sums, and run,
+// in the top folder:
 //
 //     cc -std=c11 -O1 -ffp-contract=off -o record_calls tools/record_calls.c -lm
 //     ./record_calls dense > crates/replay_runs/data/dense
 //     ./record_calls entries > crates/replay_runs/data/entries
 //
-// `dense`: dense runs with looks and both adds. `entries`: entries runs, and dense runs that are asked an entries call. Both draw from a generator of their own
-// with a fixed seed, so each run writes the same bytes. What occurs goes to standard error.
+// `dense`: dense runs with looks and both adds. `entries`: entries runs, and dense runs that are asked an entries call, each with the sparse rows of its entry
+// lists. Both draw from a generator of their own with a fixed seed, so each run writes the same bytes. What occurs goes to standard error.
 //
 // A file is words of 16 hexadecimal digits, a blank or a line end after each: a line with the number of cases, then a line a case.
 //     word 0      C, V, E and batch, four digits each
 //     word 1      digits: test a, b, c; trial a, b, c; number of terms; form (0 bare, 1 with a factor) and kind of the first term, the same of the second;
 //                 0 for a dense run or 1 for an entries run; planning's refusal; three zeros
 //     words 2, 3  the factors of the two terms (0 for a bare one)
-//     sixteen numbers, four in a word: lengths of cell vertices (and of cell edges), test DOFs, trial DOFs, colours (each), test owners, trial owners, work list,
-//                 calls, pool, matrix, entry lists (each), answers; the position after the last call; three zeros
+//     twenty numbers, four in a word: lengths of cell vertices (and of cell edges), test DOFs, trial DOFs, colours (each), test owners, trial owners, work list,
+//                 calls, pool, matrix, entry lists (each), answers; the position after the last call; lengths of row starts, columns and values of the sparse
+//                 rows; what gathering them answers: 0 0 where it is not asked, 1 and how many values are kept, or 2 and the refusal; two zeros
 //     then        cell vertices, cell edges and calls, as numbers; pool and matrix, as floats;
-//                 and after the calls answers, as numbers; matrix, as floats; entry rows and columns, as numbers; entry values, as floats
+//                 after the calls answers, as numbers; matrix, as floats; entry rows and columns, as numbers; entry values, as floats;
+//                 and of the sparse rows, before they are written and after, row starts, as words; columns, as numbers; values, as floats
 // Numbers of a list stand four in a word, and the last word of a list is filled up with zeros. A float is written by its bits, and each NaN as 7ff8000000000000.
 //
 // A call is eleven numbers: kind (0 look, 1 distant, 2 touching, 3 entries), two point counts (of kinds 2 and 3 the first alone is read), and eight places that
@@ -30,7 +33,7 @@
 #include <stdlib.h>
 #include <string.h>
 
-enum { CELLS = 8, DIM = 10, CALLS = 160, POOL = 1200, MATRIX = 300, ENTRIES = 600, BLOCKS = 12, NOTHING = 65535 };
+enum { CELLS = 8, DIM = 10, CALLS = 160, POOL = 1200, MATRIX = 300, ENTRIES = 600, STARTS = 24, BLOCKS = 12, NOTHING = 65535 };
 enum { LOOK = 0, DISTANT = 1, TOUCHING = 2, WRITE = 3 };
 
 // ---- the mesh: edges are numbered as they are met
@@ -198,6 +201,8 @@ static double point_value(const struct integrand *f, const double *k, const doub
 
 struct list { int n; const double *at; };
 
+struct sparse { uint64_t starts[STARTS]; int columns[ENTRIES]; double values[ENTRIES]; };
+
 struct run_case {
     struct element test, trial;
     int batch, entries_run, refusal;
@@ -206,6 +211,8 @@ struct run_case {
     double pool[POOL], before[MATRIX];
     int position, answers[4 * CALLS], rows[ENTRIES], columns[ENTRIES];
     double matrix[MATRIX], values[ENTRIES];
+    int starts_length, kept_columns_length, kept_values_length, gathered[2];
+    struct sparse lists_before, lists;
 };
 
 static struct run_case c;
@@ -281,7 +288,7 @@ static int lent_refusal(const struct lent *l, int distant) {
 
 // ---- the machine: one call
 
-static int seen[32], seen_looks, seen_adds, seen_cases, seen_calls, seen_nan, seen_infinite, cases;
+static int seen[32], seen_looks, seen_adds, seen_kept, seen_cases, seen_calls, seen_nan, seen_infinite, cases;
 
 // 21, 20, 23, then 9 to 11: the run's numbers and its plan are planning's own, so 22 turns nothing down, and 21 what is lent alone
 static int call_refusal(const int *call) {
@@ -327,6 +334,60 @@ static void play(const int *call, int *answer) {
     if (refusal) seen[refusal]++;
     else if (call[0] == LOOK) seen_looks++;
     else seen_adds++;
+}
+
+// ---- sparse rows
+
+// the sum of the entries at a row and column, in run order and from the first on; answers whether there is one
+static int sum_at(int row, int column, double *sum) {
+    int met = 0;
+    for (int i = 0; i < c.entry_length; i++)
+        if (c.rows[i] == row && c.columns[i] == column) {
+            *sum = met ? *sum + c.values[i] : c.values[i];
+            met = 1;
+        }
+    return met;
+}
+
+// each row and column is below its size; the entry lists of a case have one length
+static int entries_fit(void) {
+    for (int i = 0; i < c.entry_length; i++)
+        if (c.rows[i] >= c.test.count || c.columns[i] >= c.trial.count) return 0;
+    return 1;
+}
+
+// Gathers the entries that the calls have left, into lists that are so much longer than needed.
+static void gather(int starts_more, int columns_more, int values_more) {
+    int rows = c.test.count, kept = 0, refusal;
+    static struct sparse found;
+    if (rows + 1 > STARTS) exit(1);
+    for (int row = 0; row < rows; row++) {
+        found.starts[row] = (uint64_t)kept;
+        for (int column = 0; column < c.trial.count; column++)
+            if (sum_at(row, column, &found.values[kept])) found.columns[kept++] = column;
+    }
+    found.starts[rows] = (uint64_t)kept;
+    c.starts_length = rows + 1 + starts_more;
+    c.kept_columns_length = kept + columns_more;
+    c.kept_values_length = kept + values_more;
+    if (c.starts_length > STARTS || c.kept_columns_length > ENTRIES || c.kept_values_length > ENTRIES) exit(1);
+    for (int i = 0; i < STARTS; i++) c.lists_before.starts[i] = 0xfedcba9876543200u + (uint64_t)i;
+    for (int i = 0; i < ENTRIES; i++) {
+        c.lists_before.columns[i] = 60000 + i;
+        c.lists_before.values[i] = -1000.0 - i;
+    }
+    c.lists = c.lists_before;
+    refusal = !entries_fit() ? 25 : c.starts_length < rows + 1 || c.kept_columns_length < kept || c.kept_values_length < kept ? 24 : 0;
+    c.gathered[0] = refusal ? 2 : 1;
+    c.gathered[1] = refusal ? refusal : kept;
+    if (refusal) {
+        seen[refusal]++;
+        return;
+    }
+    seen_kept++;
+    memcpy(c.lists.starts, found.starts, (size_t)(rows + 1) * sizeof *found.starts);
+    memcpy(c.lists.columns, found.columns, (size_t)kept * sizeof *found.columns);
+    memcpy(c.lists.values, found.values, (size_t)kept * sizeof *found.values);
 }
 
 // ---- the generator (splitmix64) and its numbers
@@ -541,6 +602,12 @@ static void floats(const double *list, int n) {
     for (int i = 0; i < n; i++) word(to_bits(list[i]));
 }
 
+static void sparse_lists(const struct sparse *l) {
+    for (int i = 0; i < c.starts_length; i++) word(l->starts[i]);
+    numbers(l->columns, c.kept_columns_length);
+    floats(l->values, c.kept_values_length);
+}
+
 static void end_line(void) {
     printf("\n");
     column = 0;
@@ -550,15 +617,16 @@ static void write_case(void) {
     const int digits[16] = { c.test.a, c.test.b, c.test.c, c.trial.a, c.trial.b, c.trial.c, c.f.terms, c.f.term[0].scaled, c.f.term[0].kind, c.f.term[1].scaled,
                              c.f.term[1].kind, c.entries_run, c.refusal };
     const int sizes[4] = { C, V, E, c.batch };
-    const int lengths[16] = { 3 * C, c.test_dofs_length, C * c.trial.dim, C, 3 * C * c.test.dim, 3 * C * c.trial.dim, 3 * C * C, c.call_numbers, c.pool_length,
-                              c.matrix_length, c.entry_length, c.answer_numbers, c.position };
+    const int lengths[20] = { 3 * C, c.test_dofs_length, C * c.trial.dim, C, 3 * C * c.test.dim, 3 * C * c.trial.dim, 3 * C * C, c.call_numbers, c.pool_length,
+                              c.matrix_length, c.entry_length, c.answer_numbers, c.position, c.starts_length, c.kept_columns_length, c.kept_values_length,
+                              c.gathered[0], c.gathered[1] };
     uint64_t forms = 0;
     for (int i = 0; i < 16; i++) forms = forms << 4 | (uint64_t)digits[i];
     numbers(sizes, 4);
     word(forms);
     word(to_bits(c.f.term[0].factor));
     word(to_bits(c.f.term[1].factor));
-    numbers(lengths, 16);
+    numbers(lengths, 20);
     numbers(&vert[0][0], 3 * C);
     numbers(&edge[0][0], 3 * C);
     numbers(&c.calls[0][0], c.call_numbers);
@@ -569,11 +637,17 @@ static void write_case(void) {
     numbers(c.rows, c.entry_length);
     numbers(c.columns, c.entry_length);
     floats(c.values, c.entry_length);
+    sparse_lists(&c.lists_before);
+    sparse_lists(&c.lists);
     end_line();
     seen_cases++;
     for (int i = 0; i < c.matrix_length; i++) {
         seen_nan += isnan(c.matrix[i]) != 0;
         seen_infinite += isinf(c.matrix[i]) != 0;
+    }
+    for (int i = 0; i < c.kept_values_length; i++) {
+        seen_nan += isnan(c.lists.values[i]) != 0;
+        seen_infinite += isinf(c.lists.values[i]) != 0;
     }
 }
 
@@ -676,15 +750,18 @@ static void dense_file(void) {
     finish();
 }
 
+// the lists of the sparse rows are as long as needed, somewhat longer, and longer than the entry lists, in turn
 static void entries_whole(enum mesh mesh, const int test[3], const int trial[3], int batch, struct integrand f, int entries_run) {
+    int turn = seen_cases % 3;
     begin(mesh, test, trial, batch, f, entries_run);
     with_entry_lists(0);
     play_whole(1);
+    gather(turn, turn < 2 ? 2 * turn : c.entry_length, turn < 2 ? 3 * turn : c.entry_length);
     finish();
 }
 
 static void entries_file(void) {
-    head(20);
+    head(26);
     // whole entries runs
     entries_whole(PAPER, vertices_1, vertices_1, 2, single, 1);
     entries_whole(PAPER, dim_6, vertices_1, 1, two(0, 1, 1, 3), 1);
@@ -703,6 +780,7 @@ static void entries_file(void) {
         with_entry_lists(k < 2 ? 1 - 2 * k : 0);
         if (k >= 2) c.matrix_length--;
         play_some(16, 1);
+        gather(k, 3, 2);
         finish();
     }
     // two cells apart: two touching records, each a cell with itself
@@ -711,6 +789,7 @@ static void entries_file(void) {
     ask(WRITE);
     ask(WRITE);
     ask(WRITE);
+    gather(0, 0, 0);
     finish();
     // planning refuses
     begin(PAPER, vertices_1, vertices_1, 1, single, 1);
@@ -719,6 +798,26 @@ static void entries_file(void) {
     c.batch = 0;
     c.refusal = 5;
     c.position = 0;
+    finish();
+    // of the sparse rows one list too short; then all three, with a record that is not written
+    for (int k = 0; k < 4; k++) {
+        static const int more[4][3] = { { -1, 1, 0 }, { 2, -1, 0 }, { 2, 1, -1 }, { -1, -1, -1 } };
+        begin(PAPER, vertices_1, cells_1, 1, single, 1);
+        with_entry_lists(0);
+        while (c.position < C * C - (k == 3)) ask(WRITE);
+        gather(more[k][0], more[k][1], more[k][2]);
+        finish();
+    }
+    // no entry
+    begin(PAPER, vertices_1, cells_1, 1, single, 1);
+    ask(WRITE);
+    gather(1, 1, 1);
+    finish();
+    // entries that overflow, and infinity minus infinity
+    begin(PAPER, vertices_1, vertices_1, 1, (struct integrand){ 1, { { 1, 0, 1e308 } } }, 1);
+    with_entry_lists(0);
+    play_whole(1);
+    gather(1, 0, 2);
     finish();
 }
 
@@ -729,7 +828,7 @@ int main(int argc, char **argv) {
         fprintf(stderr, "record_calls dense | entries\n");
         return 1;
     }
-    fprintf(stderr, "%d cases, %d calls: %d looks, %d adds", seen_cases, seen_calls, seen_looks, seen_adds);
+    fprintf(stderr, "%d cases, %d calls: %d looks, %d adds, %d sparse rows", seen_cases, seen_calls, seen_looks, seen_adds, seen_kept);
     for (int i = 0; i < 32; i++)
         if (seen[i]) fprintf(stderr, ", %d of %d", seen[i], i);
     fprintf(stderr, "; %d infinite, %d NaN\n", seen_infinite, seen_nan);

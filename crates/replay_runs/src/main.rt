@@ -1,12 +1,19 @@
 // Plays recorded lists of calls: each case of data/dense and of data/entries is a planning with its calls, encoded for `replay`, and all that they must answer
 // and leave. Plays it by one call of `replay`, and compares the position, every answer and every number of the matrix and of the entry lists, floats by their
-// bits. tools/record_calls.c made the files: a C implementation written from the paper. Its head says how, and what a line holds.
+// bits. Of each case of data/entries it then gathers the entry lists, as the calls left them, into sparse rows, and compares the answer and every number of
+// their three lists. tools/record_calls.c made the files: a C implementation written from the paper. Its head says how, and what a line holds.
 mod cases;
+mod lists;
+mod sparse;
 
 use crate::cases::Case;
 use crate::cases::read_case;
+use crate::lists::call_room;
+use crate::lists::float_room;
+use crate::lists::read_calls;
+use crate::lists::room;
+use crate::sparse::rows_agree;
 use libc::STDOUT_FILENO;
-use numbers::wide;
 use recorded::at_end;
 use recorded::read_floats;
 use recorded::read_numbers;
@@ -15,61 +22,6 @@ use recorded::same_floats;
 use recorded::same_numbers;
 use replay::Replayed;
 use replay::replay;
-ghost use Prim.Native.Nat.{_≤_};
-
-// ---- lists
-
-// The front of a list that has length i of the case; the whole list where it is shorter.
-fn room<'a>(list: &'a mut [u32], lengths: &[u32; 16], i: usize) -> &'a mut [u32]
-    requires { ⌜ i ≤ 15 ⌝ }
-{
-    let n = wide(lengths[i]);
-    if list.len() < n {
-        return list;
-    }
-    let start = 0;
-    &mut list[start..n]
-}
-
-// The same of floats.
-fn float_room<'a>(list: &'a mut [f64], lengths: &[u32; 16], i: usize) -> &'a mut [f64]
-    requires { ⌜ i ≤ 15 ⌝ }
-{
-    let n = wide(lengths[i]);
-    if list.len() < n {
-        return list;
-    }
-    let start = 0;
-    &mut list[start..n]
-}
-
-// The same of the numbers of calls.
-fn call_room<'a>(list: &'a mut [usize], lengths: &[u32; 16], i: usize) -> &'a mut [usize]
-    requires { ⌜ i ≤ 15 ⌝ }
-{
-    let n = wide(lengths[i]);
-    if list.len() < n {
-        return list;
-    }
-    let start = 0;
-    &mut list[start..n]
-}
-
-fn number_at(list: &[u32; 1760], i: usize) -> usize {
-    if i < 1760 {
-        return wide(list[i]);
-    }
-    0
-}
-
-// The next numbers, as those of calls.
-fn read_calls(fd: i32, calls: &mut [usize], lengths: &[u32; 16]) {
-    let mut numbers = [0u32; 1760];
-    read_numbers(fd, room(&mut numbers, lengths, 7));
-    for i in 0..calls.len() {
-        calls[i] = number_at(&numbers, i);
-    }
-}
 
 // ---- one case
 
@@ -83,34 +35,63 @@ fn answer_agrees(answer: Replayed, case: Case, position: u32) -> bool {
     }
 }
 
-fn print_count(n: u32, words: &[u8]) {
+// Rows and columns of the planning; none where it refuses.
+fn sizes_of(answer: Replayed) -> [u32; 2] {
+    match answer {
+        Replayed::Refused(_) => [0, 0],
+        Replayed::Played(run) => {
+            let numbers = run.numbers;
+            [numbers.rows, numbers.columns]
+        }
+    }
+}
+
+fn print_number(n: u32) {
     io::print_decimal(STDOUT_FILENO, n as u64);
+}
+
+fn print_count(n: u32, words: &[u8]) {
+    print_number(n);
     io::write_all(STDOUT_FILENO, words);
 }
 
+// What gathering answers, where it is asked.
+fn print_gathered(lengths: &[u32; 20]) {
+    if lengths[16] == 1 {
+        io::write_all(STDOUT_FILENO, b", ");
+        print_count(lengths[17], b" values kept of ");
+        print_count(lengths[10], b" entries");
+    }
+    if lengths[16] == 2 {
+        io::write_all(STDOUT_FILENO, b", gathering refuses ");
+        print_number(lengths[17]);
+    }
+}
+
 // The line of a case.
-fn print_case(case: Case, calls: u32, position: u32, agrees: bool) {
+fn print_case(case: Case, lengths: &[u32; 20], agrees: bool) {
     let sizes = case.sizes;
     print_count(sizes.cells, b" cells, ");
-    print_count(calls, b" calls, ");
+    print_count(lengths[7] / 11, b" calls, ");
     if case.refusal == 0 {
         io::write_all(STDOUT_FILENO, b"position ");
-        print_count(position, b": ");
+        print_number(lengths[12]);
     } else {
         io::write_all(STDOUT_FILENO, b"planning refuses ");
-        print_count(case.refusal, b": ");
+        print_number(case.refusal);
     }
+    print_gathered(lengths);
     if agrees {
-        io::write_all(STDOUT_FILENO, b"agree\n");
+        io::write_all(STDOUT_FILENO, b": agree\n");
     } else {
-        io::write_all(STDOUT_FILENO, b"DIFFER\n");
+        io::write_all(STDOUT_FILENO, b": DIFFER\n");
     }
 }
 
 // Reads a case whole and plays it, with arrays that are long enough for 8 cells and 160 calls.
 fn case_agrees(fd: i32) -> bool {
     let case = read_case(fd);
-    let mut lengths = [0u32; 16];
+    let mut lengths = [0u32; 20];
     let mut cell_vertices = [0u32; 24];
     let mut cell_edges = [0u32; 24];
     let mut test_dofs = [0u32; 80];
@@ -175,8 +156,9 @@ fn case_agrees(fd: i32) -> bool {
         & same_floats(fd, matrix)
         & same_numbers(fd, rows)
         & same_numbers(fd, columns)
-        & same_floats(fd, values);
-    print_case(case, lengths[7] / 11, lengths[12], agrees);
+        & same_floats(fd, values)
+        & rows_agree(fd, &lengths, sizes_of(answer), rows, columns, values);
+    print_case(case, &lengths, agrees);
     agrees
 }
 

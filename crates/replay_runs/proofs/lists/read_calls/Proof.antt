@@ -1,10 +1,10 @@
--- `replay_runs::read_calls` is safe and ends. Assumes nothing.
+-- `replay_runs::lists::read_calls` is safe and ends. Assumes nothing.
 use Prim.Native.Nat.{_≤_, _-_}
 use mathlib.Core.Path.{_≡_}
 use lib.ListN.{length}
 use borrow.Author.Needs.{needs}
-use Rattle.replay_runs.proofs.read_calls.Statement.{statement}
-use Rattle.replay_runs.proofs.read_calls.Tie as tie
+use Rattle.replay_runs.proofs.lists.read_calls.Statement.{statement}
+use Rattle.replay_runs.proofs.lists.read_calls.Tie as tie
 
 abbrev Inv-loop : tie.InvT-loop
 Inv-loop fd calls₀ lengths numbers i₀ i-end calls i = (i ≤ i-end) × (length calls ≡ i-end) × (length calls ≡ length calls₀)
