@@ -7,8 +7,8 @@
 //     ./record_calls dense > crates/replay_runs/data/dense
 //     ./record_calls entries > crates/replay_runs/data/entries
 //
-// `dense`: dense runs with looks and both adds. `entries`: entries runs, and dense runs that are asked an entries call, each with the sparse rows of its entry
-// lists. Both draw from a generator of their own with a fixed seed, so each run writes the same bytes. What occurs goes to standard error.
+// `dense`: dense runs with looks and both adds. `entries`: entries runs, and dense runs that are asked an entries call, each that planning
+// accepts with the sparse rows of its entry lists. Both draw from a generator of their own with a fixed seed, so each run writes the same bytes. What occurs goes to standard error.
 //
 // A file is words of 16 hexadecimal digits, a blank or a line end after each: a line with the number of cases, then a line a case.
 //     word 0      C, V, E and batch, four digits each

@@ -299,8 +299,8 @@ seivalto_added seivalto_add_entries(
  * run order, starting from the first. These lengths are asked, at the least:
  *   row_starts                 row_count + 1
  *   kept_columns, kept_values  kept, which is never more than the number of entries, so that lists of that length always do
- * What is past the written numbers is left as it was. A value that is alone at its row and column keeps its bits, but a signalling NaN comes out quiet. No
- * scratch is lent, and the call takes no other memory than the stack. */
+ * What is past the written numbers is left as it was. Infinite values and NaN are not refused, and are added as IEEE 754 has it. A value that is alone at its
+ * row and column keeps its bits, but a signalling NaN comes out quiet. No scratch is lent, and the call takes no other memory than the stack. */
 seivalto_gathered seivalto_sparse_rows(
     const uint32_t *rows, size_t rows_length,
     const uint32_t *columns, size_t columns_length,

@@ -436,7 +436,7 @@ impl Numbers {
         unsafe { ffi::seivalto_begin_entries(self.into()) }.into()
     }
 
-    /// The entries of a finished entries run as sparse rows, in new lists.
+    /// The entries of a finished entries run as sparse rows, in new lists: `rows` + 1 row starts, and columns and values as many as entries at first.
     pub fn sparse_rows(self, entries: Entries<'_>) -> Result<SparseRows, Refusal> {
         let mut gathered = SparseRows {
             row_starts: vec![0; self.rows as usize + 1],
@@ -456,7 +456,7 @@ impl Numbers {
 }
 
 /// Writes the entries as sparse rows, and answers how many values are kept. Entries with the same row and column are added in run order, starting from the
-/// first; the columns of a row rise. `row_count` and `column_count` are the rows and columns of planning's numbers.
+/// first, as IEEE 754 has it; the columns of a row rise. `row_count` and `column_count` are the rows and columns of planning's numbers.
 pub fn sparse_rows(
     entries: Entries<'_>,
     row_count: u32,

@@ -1,4 +1,4 @@
--- The C form of an answer stands for it: read back, its refusal and its run are those that the definitions give. A refused call hands the run back as it
+-- The C form of an answer stands for it: read back, its refusal and its run, or the number kept, are those that the definitions give. A refused call hands the run back as it
 -- was, and a run begun from a refused planning gets 21. Assumes nothing.
 use Prim.Native.Nat.{ℕ, zero, suc}
 use mathlib.Core.Path.{_≡_, refl}

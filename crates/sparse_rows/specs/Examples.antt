@@ -9,13 +9,14 @@ use lib.Ieee.{Float, nan, inf, fin}
 use Rattle.lists.specs.Examples.{opened-lists}
 use Rattle.numbers.specs.Ranges.{allBelow}
 use Rattle.runs.specs.Runs.{EntryLists, entryLists}
+use Rattle.runs.specs.Reading.{plusAll}
 use Rattle.sparse_rows.specs.declared.Gathered.{Gathered}
 use Rattle.sparse_rows.specs.declared.Gathered.the-variants.{Kept as kept, Refused as refused}
 use Rattle.sparse_rows.specs.Sparse.{stands, valuesAt, occurs, sum, rowColumns, columnsOf, valuesOf, startsOf, keptOf, SparseLists, sparseLists, entriesFit, listsHold, sparseRefusal, sparseRows, sparseWritten}
 
 -- opens the definitions of this crate and those that it cites
 unfoldable opened : Unit {0}
-unfolding opened-lists allBelow stands valuesAt occurs sum rowColumns columnsOf valuesOf startsOf keptOf entriesFit listsHold sparseRefusal sparseRows sparseWritten Ieee.add
+unfolding opened-lists allBelow plusAll stands valuesAt occurs sum rowColumns columnsOf valuesOf startsOf keptOf entriesFit listsHold sparseRefusal sparseRows sparseWritten Ieee.add
 opened = tt
 
 abbrev −0· : Float
@@ -58,10 +59,11 @@ pub just-enough : outcome run 4 3 exact ≡ (kept 3, sparseLists (0 ∷ 0 ∷ 2 
 unfolding opened
 just-enough = refl
 
--- 24: one too few of any
+-- a refusal writes nothing
 abbrev turns-down : EntryLists → ℕ → ℕ → ℕ → SparseLists → Type 0
 turns-down e R C number l = outcome e R C l ≡ (refused number, l)
 
+-- 24: one too few of any
 pub few-starts : turns-down run 4 3 24 (sparseLists (9 ∷ 9 ∷ 9 ∷ 9 ∷ []) (8 ∷ 8 ∷ 8 ∷ []) (3· ∷ 3· ∷ 3· ∷ []))
 unfolding opened
 few-starts = refl
@@ -104,8 +106,13 @@ no-rows = refl
 abbrev row : List ℕ → List ℕ → List Float → ℕ → List Float
 row rows columns values C = valuesOf (valuesAt (entryLists rows columns values)) 1 C
 
--- sums overflow and meet NaN as IEEE 754 has it; −0 + 0 is 0
-pub wild : row (0 ∷ 0 ∷ 0 ∷ 0 ∷ 0 ∷ []) (0 ∷ 1 ∷ 0 ∷ 1 ∷ 2 ∷ []) (inf false ∷ −0· ∷ inf true ∷ 0· ∷ inf true ∷ []) 3 ≡ nan ∷ 0· ∷ inf true ∷ []
+-- the largest f64
+abbrev max : Float
+max = fin false 0x1fffffffffffff (pos 971)
+
+-- as IEEE 754 has it: ∞ − ∞ is NaN, −0 + 0 is 0, a sum overflows, NaN + 1 is NaN; −∞ alone stays
+pub wild : row (0 ∷ 0 ∷ 0 ∷ 0 ∷ 0 ∷ 0 ∷ 0 ∷ 0 ∷ 0 ∷ []) (0 ∷ 1 ∷ 2 ∷ 3 ∷ 0 ∷ 1 ∷ 2 ∷ 3 ∷ 4 ∷ []) (inf false ∷ −0· ∷ max ∷ nan ∷ inf true ∷ 0· ∷ max ∷ 1· ∷ inf true ∷ []) 5
+    ≡ nan ∷ 0· ∷ inf false ∷ nan ∷ inf true ∷ []
 unfolding opened
 wild = refl
 

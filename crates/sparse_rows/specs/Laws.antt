@@ -1,17 +1,17 @@
--- Laws of sparse rows: in each row the columns rise strictly, and the same values in the same order at each row and column give, for equal sizes, the same
--- sparse rows. Assumes nothing.
-use Prim.Native.Nat.{ℕ, zero, suc, _+_, _<_, _≤_}
+-- Laws of sparse rows: in each row the columns rise strictly; row r has the places from its start to the next row's; and the same values in the same order at
+-- each row and column give, for equal sizes, the same sparse rows. Assumes nothing.
+use Prim.Native.Nat.{ℕ, zero, suc, _+_, _-_, _<_, _≤_}
 use native.Mathlib.Numerals.{add-one}
 use native.Mathlib.Omega.{arith}
 use mathlib.Core.Bool.{Bool, true, false}
 use mathlib.Core.Path.{_≡_, sym, ap, _∙_}
 use mathlib.Core.Logic.{⊎-elim}
-use mathlib.Core.List.{List, [], _∷_, _++_}
-use lib.ListN.{length, getD, length-append, List·getD-append}
-use lib.Seq.{getD-append-add}
+use mathlib.Core.List.{List, [], _∷_, _++_, flatMap, map}
+use lib.ListN.{length, getD, take, drop, length-append, length-map, List·getD-append}
+use lib.Seq.{getD-append-add, take-append-seam, drop-append-seam}
 use lib.Ieee.{Float}
 use Rattle.lists.specs.Bounded.{lt-or-le}
-use Rattle.lists.specs.Range.{range, when, filter, flatMap-below, map-below, filter-none, filter-more, map-filter, all-in-filter, all-in-range, all-in-at}
+use Rattle.lists.specs.Range.{range, when, filter, flatMap-below, map-below, filter-none, filter-more, map-filter, all-in-filter, all-in-range, all-in-at, flatMap-range, flatMap-none, range-split, map-range, length-range}
 use Rattle.sparse_rows.specs.Sparse.{occurs, sum, rowColumns, columnsOf, valuesOf, startsOf, keptOf, SparseLists, inFront}
 
 -- ---- columns rise
@@ -41,6 +41,67 @@ rising p (suc n) i j h l = rw (more, filter-more p n) (⊎-elim (λ m. early (p 
 pub columns-rise : (at : ℕ → ℕ → List Float) (C r i j : ℕ) → i < j → j < length (rowColumns at C r) → getD (rowColumns at C r) i 0 < getD (rowColumns at C r) j 0
 unfolding rowColumns
 columns-rise at C r i j h l = rising (λ c. occurs (at r c)) C i j h l
+
+-- ---- row r has the places from its start to the next row's
+
+-- the part of a list from one place to another
+abbrev pub part : {A : Type 0} → ℕ → ℕ → List A → List A
+part from to xs = take (to - from) (drop from xs)
+
+part-of : {A : Type 0} (front xs more : List A) {from to : ℕ} → from ≡ length front → to ≡ length front + length xs → part from to (front ++ (xs ++ more)) ≡ xs
+part-of front xs more {from} {to} p q =
+    let long : to - from ≡ length xs = omega arith in
+    rw (long, p, drop-append-seam front (xs ++ more)) (take-append-seam xs more)
+
+number-at : (g : ℕ → ℕ) (n k : ℕ) → k < n → getD (map g (range n)) k 0 ≡ g k
+number-at g zero k h = absurd (omega arith)
+number-at g (suc n) k h =
+    let more : suc n ≡ n + 1 = sym (add-one n) in
+    let long : length (map g (range n)) ≡ n = length-map (range n) g ∙ length-range n in
+    rw (more, map-range g n)
+    (⊎-elim (λ l. List·getD-append (map g (range n)) (g n ∷ []) 0 k (omega arith) ∙ number-at g n k l)
+    (λ l. let last : k ≡ length (map g (range n)) + 0 = omega arith in
+    let same : k ≡ n = omega arith in
+    ap (λ (j : ℕ). getD (map g (range n) ++ (g n ∷ [])) j 0) last ∙ getD-append-add (map g (range n)) (g n ∷ []) 0 0 ∙ ap g (sym same)) (lt-or-le k n))
+
+module _ (at : ℕ → ℕ → List Float) (R C : ℕ) where
+  start-is : (r : ℕ) → r < R + 1 → getD (startsOf at R C) r 0 ≡ length (columnsOf at r C)
+  unfolding startsOf
+  start-is r h = number-at (λ r. length (columnsOf at r C)) (R + 1) r h
+
+  next-start : (r : ℕ) → length (columnsOf at (r + 1) C) ≡ length (columnsOf at r C) + length (rowColumns at C r)
+  unfolding columnsOf
+  next-start r = ap length (flatMap-range (rowColumns at C) r) ∙ length-append (flatMap (rowColumns at C) (range r)) (rowColumns at C r)
+
+  -- as many values as columns
+  row-values-long : (r : ℕ) → length (map (λ c. sum (at r c)) (rowColumns at C r)) ≡ length (rowColumns at C r)
+  row-values-long r = length-map (rowColumns at C r) (λ c. sum (at r c))
+
+  values-long : (r : ℕ) → length (flatMap (λ r. map (λ c. sum (at r c)) (rowColumns at C r)) (range r)) ≡ length (columnsOf at r C)
+  unfolding columnsOf
+  values-long zero = rw (flatMap-none (λ r. map (λ c. sum (at r c)) (rowColumns at C r)), flatMap-none (rowColumns at C))
+  values-long (suc r) =
+      let more : suc r ≡ r + 1 = sym (add-one r) in
+      rw more
+      (ap length (flatMap-range (λ r. map (λ c. sum (at r c)) (rowColumns at C r)) r)
+      ∙ length-append (flatMap (λ r. map (λ c. sum (at r c)) (rowColumns at C r)) (range r)) (map (λ c. sum (at r c)) (rowColumns at C r))
+      ∙ omega (arith, values-long r, row-values-long r, next-start r))
+
+  module _ (r : ℕ) (h : r < R) where
+    pub row-columns : part (getD (startsOf at R C) r 0) (getD (startsOf at R C) (r + 1) 0) (columnsOf at R C) ≡ rowColumns at C r
+    unfolding columnsOf
+    row-columns =
+        let split = range-split (rowColumns at C) r R h in
+        rw (split .1) (part-of (flatMap (rowColumns at C) (range r)) (rowColumns at C r) (split .0) (start-is r (omega arith)) (start-is (r + 1) (omega arith) ∙ next-start r))
+
+    pub row-values : part (getD (startsOf at R C) r 0) (getD (startsOf at R C) (r + 1) 0) (valuesOf at R C) ≡ map (λ c. sum (at r c)) (rowColumns at C r)
+    unfolding valuesOf
+    row-values =
+        let row : ℕ → List Float = λ r. map (λ c. sum (at r c)) (rowColumns at C r) in
+        let split = range-split row r R h in
+        rw (split .1)
+        (part-of (flatMap row (range r)) (row r) (split .0) (start-is r (omega arith) ∙ sym (values-long r))
+        (start-is (r + 1) (omega arith) ∙ next-start r ∙ omega (arith, values-long r, row-values-long r)))
 
 -- ---- the same values in the same order
 

@@ -1,15 +1,15 @@
 -- The entry lists of a finished run pass 25, and hold at each row and column what the touching pairs put there. Assumes nothing.
-use Prim.Native.Nat.{ℕ, suc, _+_, _*_, _≤_, _<_}
+use Prim.Native.Nat.{ℕ, _+_, _*_, _≤_, _<_}
 use native.Mathlib.Omega.{arith}
 use mathlib.Core.Bool.{true}
 use mathlib.Core.Path.{_≡_, refl, sym, ap, ap₂, _∙_}
 use mathlib.Core.List.{List, [], _∷_, _++_, flatMap, map}
-use lib.ListN.{length, getD, length-append}
+use lib.ListN.{length, length-append}
 use lib.Ieee.{Float}
 use borrow.Author.Tests.{eq-eqb, le-leb, lt-ltb}
 use Rattle.lists.specs.Bool.{every-of, end, _also_}
 use Rattle.lists.specs.Bounded.{all-of}
-use Rattle.lists.specs.Range.{AllIn, all-in-flatMap, all-in-at}
+use Rattle.lists.specs.Range.{AllIn, all-in-flatMap, all-in-weaken, all-in-places, all-in-at}
 use Rattle.lists.specs.Refusals.{answers, accepted, _then_}
 use Rattle.numbers.specs.Ranges.{allBelow, below-at}
 use Rattle.dof_numbering.specs.Promises.{dof-list-length}
@@ -34,16 +34,6 @@ use Rattle.sparse_rows.specs.Pairs.{pairAt, pairsAt}
 
 -- ---- properties of each element
 
-all-in-each : {A : Type 0} (P Q : A → Type 0) → ((x : A) → P x → Q x) → (xs : List A) → AllIn P xs → AllIn Q xs
-unfolding AllIn
-all-in-each P Q f [] h = tt
-all-in-each P Q f (x ∷ xs) h = (f x (h .0), all-in-each P Q f xs (h .1))
-
-all-in-places : (P : ℕ → Type 0) (xs : List ℕ) → ((k : ℕ) → k < length xs → P (getD xs k 0)) → AllIn P xs
-unfolding AllIn
-all-in-places P [] h = tt
-all-in-places P (x ∷ xs) h = (h 0 (omega arith), all-in-places P xs (λ k l. h (suc k) (omega arith)))
-
 all-in-same : (P : ℕ → Type 0) (k : ℕ) → P k → (xs : List ℕ) → AllIn P (map (λ (x : ℕ). k) xs)
 unfolding AllIn
 all-in-same P k h [] = tt
@@ -54,7 +44,7 @@ unfolding allBelow
 below-all bound xs h = all-of _ _ (λ k l. lt-ltb _ bound (all-in-at (λ k. k < bound) xs h 0 k l))
 
 all-below : (bound : ℕ) (xs : List ℕ) → allBelow xs bound ≡ true → AllIn (λ k. k < bound) xs
-all-below bound xs h = all-in-places (λ k. k < bound) xs (below-at xs bound h)
+all-below bound xs h = all-in-places (λ k. k < bound) xs 0 (below-at xs bound h)
 
 -- ---- records and the calls beside them
 
@@ -119,13 +109,13 @@ module _ (x : Planning) where
       }
 
   all-dims : AllIn (Dims m) T
-  all-dims = all-in-each (Near (x .mesh)) (Dims m) dims T (touching-each (x .mesh))
+  all-dims = all-in-weaken (Near (x .mesh)) (Dims m) dims T (touching-each (x .mesh))
 
   rows-below : AllIn (λ k. k < m .rows) (flatMap (recordRows m) T)
   unfolding recordRows localRows machineAlong
   rows-below =
       all-in-flatMap (Near (x .mesh)) (λ k. k < m .rows) (recordRows m)
-      (λ e near. all-in-flatMap (λ _. Unit {0}) (λ k. k < m .rows) _ (λ _ _. all-below _ _ (cell-below (testSpace x) (x .mesh .cells) (e .test) (near .testCell))) _ (all-in-places (λ _. Unit {0}) _ (λ _ _. tt)))
+      (λ e near. all-in-flatMap (λ _. Unit {0}) (λ k. k < m .rows) _ (λ _ _. all-below _ _ (cell-below (testSpace x) (x .mesh .cells) (e .test) (near .testCell))) _ (all-in-places (λ _. Unit {0}) _ 0 (λ _ _. tt)))
       T (touching-each (x .mesh))
 
   columns-below : AllIn (λ k. k < m .columns) (flatMap (recordColumns m) T)

@@ -9,7 +9,7 @@ use mathlib.Core.List.{List, [], _∷_, _++_}
 use lib.ListN.{length, replicate, length-replicate}
 use borrow.Author.Tests.{eq-eqb}
 use Rattle.lists.specs.Bool.{every-of, _also_, end}
-use Rattle.lists.specs.Range.{AllIn, all-in-append}
+use Rattle.lists.specs.Range.{AllIn, all-in-append, all-in-weaken}
 use Rattle.lists.specs.Refusals.{Check, check, unless, refusal}
 use Rattle.lists.specs.Writes.{numbers, Wrote, Room}
 use Rattle.grid.specs.Mesh.{meshChecks}
@@ -153,11 +153,6 @@ refused-text x l n e = let r = answer-refused (planRefusal x l) n _ e in go n (r
     go (suc m) h same = rw same
 
 -- ---- how long the text is
-
-all-in-weaken : {A : Type 0} (P Q : A → Type 0) → ((a : A) → P a → Q a) → (xs : List A) → AllIn P xs → AllIn Q xs
-unfolding AllIn
-all-in-weaken P Q f [] h = tt
-all-in-weaken P Q f (a ∷ xs) h = (f a (h .0), all-in-weaken P Q f xs (h .1))
 
 records-short : (x : Planning) → x .mesh .cells ≤ mostWorklistCells → AllIn Short (workRecords x)
 unfolding workList
