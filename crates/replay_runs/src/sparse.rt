@@ -8,7 +8,7 @@ use recorded::read_floats;
 use recorded::read_numbers;
 use recorded::same_floats;
 use recorded::same_numbers;
-use sparse_rows::Gathered;
+use sparse_lists::Gathered;
 use sparse_rows::sparse_rows;
 
 // Whether as many values are kept as must be, or the refusal is the one that must be.

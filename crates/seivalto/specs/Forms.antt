@@ -12,8 +12,8 @@ use Rattle.plans.specs.declared.PlanNumbers.{PlanNumbers}
 use Rattle.plans.specs.declared.Planned.{Planned}
 use Rattle.plans.specs.declared.Planned.the-variants.{Ready as ready, Refused as not-planned}
 use Rattle.runs.specs.Runs.{Run, Reply, Answer, found, accepted, refused}
-use Rattle.sparse_rows.specs.declared.Gathered.{Gathered}
-use Rattle.sparse_rows.specs.declared.Gathered.the-variants.{Kept as kept, Refused as not-gathered}
+use Rattle.sparse_lists.specs.declared.Gathered.{Gathered}
+use Rattle.sparse_lists.specs.declared.Gathered.the-variants.{Kept as kept, Refused as not-gathered}
 use Rattle.seivalto.specs.declared.CElement.{CElement}
 use Rattle.seivalto.specs.declared.CTerm.{CTerm}
 use Rattle.seivalto.specs.declared.CIntegrand.{CIntegrand}

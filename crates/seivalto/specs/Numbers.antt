@@ -12,7 +12,7 @@ use Rattle.plans.specs.Planning.{Planning, Lists, planChecks, planRefusal, plan
 use Rattle.runs.specs.Runs.{Run, Plan, EntryLists, found, accepted, reply, recordOf, advance, lookRefusal, distantRefusal, touchingRefusal, entriesRefusal, look, addDistant, addTouching, addEntries}
 use Rattle.cell_pairs.specs.declared.WorkRecord.{WorkRecord}
 use Rattle.lent_numbers.specs.Lent.{Touching, Distant}
-use Rattle.sparse_rows.specs.Sparse.{SparseLists, valuesAt, keptOf, sparseRefusal, gathered, sparseRows}
+use Rattle.sparse_lists.specs.Sparse.{SparseLists, valuesAt, keptOf, sparseRefusal, gathered, sparseRows}
 use Rattle.seivalto.specs.declared.CElement.{CElement}
 use Rattle.seivalto.specs.declared.CIntegrand.{CIntegrand}
 use Rattle.seivalto.specs.declared.CRun.{CRun}

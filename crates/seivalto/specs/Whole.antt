@@ -15,7 +15,7 @@ use Rattle.runs.specs.Calls.{Call, looks, addsDistant, addsTouching, addsEntrie
 use Rattle.runs.specs.Listed.{planIn}
 use Rattle.runs.specs.ThirdProperty.{ThirdProperty, third-property}
 use Rattle.runs.specs.EntriesProperty.{EntriesProperty, entries-property}
-use Rattle.sparse_rows.specs.SparseProperty.{SparseProperty, sparse-of}
+use Rattle.sparse_lists.specs.SparseProperty.{SparseProperty, sparse-of}
 use Rattle.seivalto.specs.declared.CElement.{CElement}
 use Rattle.seivalto.specs.declared.CIntegrand.{CIntegrand}
 use Rattle.seivalto.specs.declared.CPlanned.{CPlanned}

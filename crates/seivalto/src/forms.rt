@@ -18,7 +18,7 @@ use integrands::Integrand;
 use integrands::Term;
 use plans::PlanNumbers;
 use plans::Planned;
-use sparse_rows::Gathered;
+use sparse_lists::Gathered;
 ghost use mathlib.Core.Path.{_≡_};
 ghost use Rattle.boundary_assemblers.specs.Forms as Inner;
 ghost use Rattle.seivalto.specs.Forms.{elementOf, termOf, integrandOf, numbersOf, runOf, cNumbers, noNumbers, cPlanned, cRecord, noRecord, cLooked, cRun, moved, cAdded, cGathered};

@@ -4,7 +4,7 @@ use crate::forms::c_gathered;
 use sparse_rows::sparse_rows;
 ghost use mathlib.Core.Path.{_≡_};
 ghost use Rattle.runs.specs.Runs.{entryLists};
-ghost use Rattle.sparse_rows.specs.Sparse.{sparseLists, sparseRows, sparseWritten};
+ghost use Rattle.sparse_lists.specs.Sparse.{sparseLists, sparseRows, sparseWritten};
 ghost use Rattle.seivalto.specs.Forms.{cGathered};
 
 // Writes row starts, columns and values of the entries, those of one row and column added up.

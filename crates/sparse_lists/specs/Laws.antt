@@ -12,7 +12,7 @@ use lib.Seq.{getD-append-add, take-append-seam, drop-append-seam}
 use lib.Ieee.{Float}
 use Rattle.lists.specs.Bounded.{lt-or-le}
 use Rattle.lists.specs.Range.{range, when, filter, flatMap-below, map-below, filter-none, filter-more, map-filter, all-in-filter, all-in-range, all-in-at, flatMap-range, flatMap-none, range-split, map-range, length-range}
-use Rattle.sparse_rows.specs.Sparse.{occurs, sum, rowColumns, columnsOf, valuesOf, startsOf, keptOf, SparseLists, inFront}
+use Rattle.sparse_lists.specs.Sparse.{occurs, sum, rowColumns, columnsOf, valuesOf, startsOf, keptOf, SparseLists, inFront}
 
 -- ---- columns rise
 

@@ -10,9 +10,9 @@ use Rattle.lists.specs.Examples.{opened-lists}
 use Rattle.numbers.specs.Ranges.{allBelow}
 use Rattle.runs.specs.Runs.{EntryLists, entryLists}
 use Rattle.runs.specs.Reading.{plusAll}
-use Rattle.sparse_rows.specs.declared.Gathered.{Gathered}
-use Rattle.sparse_rows.specs.declared.Gathered.the-variants.{Kept as kept, Refused as refused}
-use Rattle.sparse_rows.specs.Sparse.{stands, valuesAt, occurs, sum, rowColumns, columnsOf, valuesOf, startsOf, keptOf, SparseLists, sparseLists, entriesFit, listsHold, sparseRefusal, sparseRows, sparseWritten}
+use Rattle.sparse_lists.specs.declared.Gathered.{Gathered}
+use Rattle.sparse_lists.specs.declared.Gathered.the-variants.{Kept as kept, Refused as refused}
+use Rattle.sparse_lists.specs.Sparse.{stands, valuesAt, occurs, sum, rowColumns, columnsOf, valuesOf, startsOf, keptOf, SparseLists, sparseLists, entriesFit, listsHold, sparseRefusal, sparseRows, sparseWritten}
 
 -- opens the definitions of this crate and those that it cites
 unfoldable opened : Unit {0}

@@ -26,11 +26,11 @@ use Rattle.runs.specs.Runs.{EntryLists, entryLists}
 use Rattle.runs.specs.CellDofs.{cell-fits, length-cell-is, cell-below}
 use Rattle.runs.specs.Machine.{Machine, machineAlong, machineOf}
 use Rattle.runs.specs.Reading.{recordRows, recordColumns, callValues}
-use Rattle.sparse_rows.specs.declared.Gathered.the-variants.{Kept as kept}
-use Rattle.sparse_rows.specs.Sparse.{valuesAt, keptOf, SparseLists, inFront, entriesFit, listsHold, sparseRefusal, sparseRows, sparseWritten}
-use Rattle.sparse_rows.specs.Laws.{same-kept, same-lists}
-use Rattle.sparse_rows.specs.BlockFacts.{values-nil, values-append, values-local}
-use Rattle.sparse_rows.specs.Pairs.{pairAt, pairsAt}
+use Rattle.sparse_lists.specs.declared.Gathered.the-variants.{Kept as kept}
+use Rattle.sparse_lists.specs.Sparse.{valuesAt, keptOf, SparseLists, inFront, entriesFit, listsHold, sparseRefusal, sparseRows, sparseWritten}
+use Rattle.sparse_lists.specs.Laws.{same-kept, same-lists}
+use Rattle.sparse_lists.specs.BlockFacts.{values-nil, values-append, values-local}
+use Rattle.sparse_lists.specs.Pairs.{pairAt, pairsAt}
 
 -- ---- properties of each element
 

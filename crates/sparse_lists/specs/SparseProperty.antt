@@ -20,10 +20,10 @@ use Rattle.runs.specs.Listed.{planIn}
 use Rattle.runs.specs.Reading.{taken, lentTo}
 use Rattle.runs.specs.EntriesFacts.{touching-long}
 use Rattle.runs.specs.EntriesProperty.{EntriesProperty, entries-property}
-use Rattle.sparse_rows.specs.declared.Gathered.the-variants.{Kept as kept}
-use Rattle.sparse_rows.specs.Sparse.{valuesAt, keptOf, SparseLists, inFront, entriesFit, sparseRows, sparseWritten}
-use Rattle.sparse_rows.specs.Pairs.{pairsAt}
-use Rattle.sparse_rows.specs.RunFacts.{pairs-fit, pairs-held, gathers-known}
+use Rattle.sparse_lists.specs.declared.Gathered.the-variants.{Kept as kept}
+use Rattle.sparse_lists.specs.Sparse.{valuesAt, keptOf, SparseLists, inFront, entriesFit, sparseRows, sparseWritten}
+use Rattle.sparse_lists.specs.Pairs.{pairsAt}
+use Rattle.sparse_lists.specs.RunFacts.{pairs-fit, pairs-held, gathers-known}
 
 -- what the touching pairs of the mesh put at each row and column: pair after pair in work order, pair k from what accepted call k was lent
 abbrev pub touchingAt : Planning → List Call → Progress → ℕ → ℕ → List Float

@@ -12,7 +12,7 @@ use Rattle.lists.specs.Range.{range, when, flatMap-range, flatMap-none, flatMap
 use Rattle.numbers.specs.Floats.{_!_}
 use Rattle.scatter.specs.Adding.{localRows, localColumns, localValues}
 use Rattle.runs.specs.Runs.{entryLists}
-use Rattle.sparse_rows.specs.Sparse.{stands, valuesAt}
+use Rattle.sparse_lists.specs.Sparse.{stands, valuesAt}
 
 range-first : {B : Type 0} (f : ℕ → List B) (n : ℕ) → flatMap f (range (n + 1)) ≡ f 0 ++ flatMap (λ i. f (suc i)) (range n)
 range-first f zero = flatMap-range f 0 ∙ rw (flatMap-none f, flatMap-none (λ i. f (suc i))) (sym (append-nil (f 0)))
