@@ -1,9 +1,12 @@
--- A record of the work list (`Records`), shared vertices, patterns and check 7 (`Patterns`), the work list with S and N (`WorkList`), and the examples of
--- these (`Examples`). The counting theorem (`Counting`) on the work list, and what a record of it can be (`WorkRecords`). What the proofs lean on: the cells
--- by vertex (`CellGroups`), and laws of records in a list of numbers (`RecordsFacts`), of shared vertices (`SharedVertices`), of the cells by colour and by
--- vertex (`CellGroupsFacts`), of each record (`WorkRecordsFacts`) and of sums over the records (`CountingFacts`).
+-- A record of the work list (`Records`), shared vertices, patterns and check 7 (`Patterns`), the 27 cases of one and of two shared vertices (`Cases`), the work
+-- list with S and N (`WorkList`), and the examples of these (`Examples`). The theorem on the 27 cases (`CasesProperty`), the counting theorem on the work list
+-- (`Counting`), and what a record of it can be (`WorkRecords`). What the proofs lean on: the cells by vertex (`CellGroups`), and laws of records in a list of
+-- numbers (`RecordsFacts`), of shared vertices (`SharedVertices`), of their places (`MatchesFacts`), of the 27 cases (`CasesFacts`), of the cells by colour and
+-- by vertex (`CellGroupsFacts`), of each record (`WorkRecordsFacts`) and of sums over the records (`CountingFacts`).
 pub mod Records
 pub mod Patterns
+pub mod Cases
+pub mod CasesProperty
 pub mod WorkList
 pub mod Examples
 pub mod WorkRecords
@@ -11,6 +14,8 @@ pub mod Counting
 pub mod CellGroups
 pub mod RecordsFacts
 pub mod SharedVertices
+pub mod MatchesFacts
+pub mod CasesFacts
 pub mod CellGroupsFacts
 pub mod WorkRecordsFacts
 pub mod CountingFacts

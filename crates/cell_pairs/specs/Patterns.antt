@@ -14,10 +14,15 @@ pub record Match : Type 0 where
   pub test : ℕ
   pub trial : ℕ
 
+-- p ↔ q: at test place p and trial place q
+infix 80 _↔_
+abbrev pub _↔_ : ℕ → ℕ → Match
+p ↔ q = record { test = p; trial = q }
+
 -- shared vertices are listed as (test place, trial place), trial place rising
 unfoldable pub matches : List ℕ → ℕ → ℕ → List Match
 matches vs i j =
-    flatMap (λ q. flatMap (λ p. when (eqb (entity vs i p) (entity vs j q)) (record { test = p; trial = q } ∷ [])) (range 3)) (range 3)
+    flatMap (λ q. flatMap (λ p. when (eqb (entity vs i p) (entity vs j q)) (p ↔ q ∷ [])) (range 3)) (range 3)
 
 -- the local edge that joins local vertices a and b
 unfoldable pub edgeOf : ℕ → ℕ → ℕ

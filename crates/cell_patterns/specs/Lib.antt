@@ -1,2 +1,3 @@
--- Laws of patterns and of the smallest shared vertex.
+-- Laws of patterns and of the smallest shared vertex (`PatternFacts`), and of the 27 cases as the code writes them (`Written`).
 pub mod PatternFacts
+pub mod Written

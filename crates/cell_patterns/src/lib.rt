@@ -9,7 +9,8 @@ ghost use lib.ListN.{length};
 ghost use Rattle.lists.specs.Bounded.{all};
 ghost use Rattle.grid.specs.Mesh.{distinct};
 ghost use Rattle.cell_pairs.specs.Patterns.{patternOf, pattern, smallestShared, patternsRight};
-ghost use Rattle.cell_patterns.specs.PatternFacts.{place, matchesAt, Places, edgePattern, threePattern, pairRight, lower};
+ghost use Rattle.cell_pairs.specs.MatchesFacts.{place, matchesAt, Places};
+ghost use Rattle.cell_patterns.specs.PatternFacts.{threePattern, pairRight, lower};
 
 // The place of the vertex x in a cell, 3 where it has none.
 fn place_of(vertices: &[u32], cell: usize, x: u32) -> u32
@@ -29,17 +30,7 @@ fn place_of(vertices: &[u32], cell: usize, x: u32) -> u32
     3
 }
 
-// The pattern of two shared vertices: at the test places a and b, trial place rising, on trial edge g.
-fn on_edge(a: u32, b: u32, g: u32) -> u32
-    requires { ⌜ (a < 3) × (b < 3) × (g < 3) × (a ≡ b → ⊥) ⌝ }
-    ensures { λ r. ⌜ r ≡ edgePattern a b g ⌝ }
-{
-    let e = 3 - (a + b);
-    let aligned = 9 + 2 * (3 * e + g);
-    if b < a { aligned + 1 } else { aligned }
-}
-
-// The pattern of three shared vertices.
+// The pattern of three shared vertices; NO_PATTERN where they stand in another order, and where none is shared.
 fn all_three(a: u32, b: u32, c: u32) -> u32
     ensures { λ r. ⌜ r ≡ threePattern a b c ⌝ }
 {
@@ -50,41 +41,42 @@ fn all_three(a: u32, b: u32, c: u32) -> u32
     }
 }
 
-// The pattern of cells whose trial vertices 0, 1 and 2 have the test places a, b and c, 3 for one that is not shared. Here the first is shared.
-fn with_first(a: u32, b: u32, c: u32) -> u32
-    requires { ⌜ Places a b c × (a < 3) ⌝ }
-    ensures { λ r. ⌜ r ≡ patternOf (matchesAt a b c) ⌝ }
-{
-    if b < 3 {
-        if c < 3 {
-            return all_three(a, b, c);
-        }
-        return on_edge(a, b, 2);
-    }
-    if c < 3 {
-        return on_edge(a, c, 1);
-    }
-    3 * a
-}
-
-// The same, the first shared or not.
+// The pattern of cells whose trial vertices 0, 1 and 2 have the test places a, b and c, 3 for one that is not shared. A case is these three, two bits each, and
+// beside it stands its list of (test place, trial place).
 fn pattern_at(a: u32, b: u32, c: u32) -> u32
     requires { ⌜ Places a b c ⌝ }
     ensures { λ r. ⌜ r ≡ patternOf (matchesAt a b c) ⌝ }
 {
-    if a < 3 {
-        return with_first(a, b, c);
+    match 16 * a + 4 * b + c {
+        0b00_11_11 => 0, // (0,0)
+        0b11_00_11 => 1, // (0,1)
+        0b11_11_00 => 2, // (0,2)
+        0b01_11_11 => 3, // (1,0)
+        0b11_01_11 => 4, // (1,1)
+        0b11_11_01 => 5, // (1,2)
+        0b10_11_11 => 6, // (2,0)
+        0b11_10_11 => 7, // (2,1)
+        0b11_11_10 => 8, // (2,2)
+        0b11_01_10 => 9, // (1,1), (2,2)
+        0b11_10_01 => 10, // (2,1), (1,2)
+        0b01_11_10 => 11, // (1,0), (2,2)
+        0b10_11_01 => 12, // (2,0), (1,2)
+        0b01_10_11 => 13, // (1,0), (2,1)
+        0b10_01_11 => 14, // (2,0), (1,1)
+        0b11_00_10 => 15, // (0,1), (2,2)
+        0b11_10_00 => 16, // (2,1), (0,2)
+        0b00_11_10 => 17, // (0,0), (2,2)
+        0b10_11_00 => 18, // (2,0), (0,2)
+        0b00_10_11 => 19, // (0,0), (2,1)
+        0b10_00_11 => 20, // (2,0), (0,1)
+        0b11_00_01 => 21, // (0,1), (1,2)
+        0b11_01_00 => 22, // (1,1), (0,2)
+        0b00_11_01 => 23, // (0,0), (1,2)
+        0b01_11_00 => 24, // (1,0), (0,2)
+        0b00_01_11 => 25, // (0,0), (1,1)
+        0b01_00_11 => 26, // (1,0), (0,1)
+        _ => all_three(a, b, c),
     }
-    if b < 3 {
-        if c < 3 {
-            return on_edge(b, c, 0);
-        }
-        return 3 * b + 1;
-    }
-    if c < 3 {
-        return 3 * c + 2;
-    }
-    NO_PATTERN
 }
 
 // The pattern of test cell i and trial cell j, NO_PATTERN where it is none of the list. No cell may have a vertex twice.

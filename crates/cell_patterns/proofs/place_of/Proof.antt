@@ -1,7 +1,7 @@
 -- `patterns::place_of` meets its contract: each return has the tests that led there. Assumes nothing.
 use native.Mathlib.Nat.{add-zero}
 use borrow.Author.Tests.{eq-eqb, ne-eqb}
-use Rattle.cell_patterns.specs.PatternFacts.{firstOf}
+use Rattle.cell_pairs.specs.MatchesFacts.{firstOf}
 use borrow.Author.Needs.{needs}
 use Rattle.cell_patterns.proofs.place_of.Statement.{statement}
 use Rattle.cell_patterns.proofs.place_of.Tie as tie

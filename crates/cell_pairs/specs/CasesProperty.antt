@@ -1,0 +1,53 @@
+-- The theorem on the 27 cases (change 2): they are all the lists of one or two shared vertices that there can be, each once, with the numbers 0 to 26,
+-- and these are the formula's. Assumes nothing.
+use Prim.Native.Nat.{ℕ, _<_}
+use mathlib.Core.Path.{_≡_, refl, sym, ap, _∙_}
+use mathlib.Core.Bool.{true}
+use mathlib.Core.Logic.{_⊎_}
+use mathlib.Core.List.{List}
+use lib.ListN.{length}
+use Rattle.lists.specs.Refusals.{refusal}
+use Rattle.grid.specs.Mesh.{Mesh, verticesRight, meshChecks}
+use Rattle.cell_pairs.specs.Patterns.{Match, matches, patternOf, pattern}
+use Rattle.cell_pairs.specs.Cases.{cases, caseAt, canBe, sharedVertices, twoCells}
+use Rattle.cell_pairs.specs.CasesFacts.{case-number, case-can-be, case-formula, case-occurs, can-be-case, mesh-counts, mesh-can-be}
+
+pub record CasesProperty : Type 0 where
+  -- numbers 0 to 26: there are 27 cases, and the one at place k has the number k
+  pub many : length cases ≡ 27
+  pub numbers : (k : ℕ) → k < 27 → caseAt k .number ≡ k
+  -- all: each list that there can be is the list of a case, and no case has any other
+  pub all : (ms : List Match) → canBe ms ≡ true → (k : ℕ) × (k < 27) × (caseAt k .shared ≡ ms)
+  pub no-other : (k : ℕ) → k < 27 → canBe (caseAt k .shared) ≡ true
+  -- each once: no two cases have the same list
+  pub once : (k l : ℕ) → k < 27 → l < 27 → caseAt k .shared ≡ caseAt l .shared → k ≡ l
+  -- the number of each is the formula's
+  pub formula : (k : ℕ) → k < 27 → caseAt k .number ≡ patternOf (caseAt k .shared)
+  -- nothing is left over: on a mesh that passes check 2, the list of two cells has as many places as they share vertices
+  pub counted : (m : Mesh) → verticesRight m ≡ true → (i j : ℕ) → i < m .cells → j < m .cells
+      → length (matches (m .cellVertices) i j) ≡ sharedVertices m i j
+  -- and where they share one or two, it is a list that there can be, that of the case whose number is their pattern
+  pub meshes : (m : Mesh) → verticesRight m ≡ true → (i j : ℕ) → i < m .cells → j < m .cells
+      → (sharedVertices m i j ≡ 1) ⊎ (sharedVertices m i j ≡ 2)
+      → (canBe (matches (m .cellVertices) i j) ≡ true)
+      × (pattern (m .cellVertices) i j < 27)
+      × (caseAt (pattern (m .cellVertices) i j) .shared ≡ matches (m .cellVertices) i j)
+  -- no case is idle: each is the list of the two cells of a mesh that passes checks 1 to 3
+  pub occurs : (k : ℕ) → k < 27
+      → (refusal (meshChecks (twoCells (caseAt k .shared))) ≡ 0)
+      × (matches (twoCells (caseAt k .shared) .cellVertices) 0 1 ≡ caseAt k .shared)
+
+pub cases-property : CasesProperty
+unfolding pattern
+cases-property =
+    record {
+      many = refl;
+      numbers = case-number;
+      all = λ ms e. let f = can-be-case ms e in (patternOf ms, f .0, f .1);
+      no-other = case-can-be;
+      once = λ k l hk hl e. sym (case-formula k hk) ∙ ap patternOf e ∙ case-formula l hl;
+      formula = λ k h. case-number k h ∙ sym (case-formula k h);
+      counted = mesh-counts;
+      meshes = λ m e i j hi hj s. let c = mesh-can-be m e i j hi hj s in let f = can-be-case (matches (m .cellVertices) i j) c in (c, f .0, f .1);
+      occurs = case-occurs;
+    }
