@@ -130,7 +130,8 @@ typedef struct {
  * local places:
  *   one, at i of the test cell and j of the trial cell    3 * i + j
  *   two, edge e of the test cell and g of the trial cell  9 + 2 * (3 * e + g), and 1 more if the first vertex of g is the second of e
- *   three, each at the same place of both cells           27; a cell with itself is such a pair */
+ *   three, each at the same place of both cells           27; a cell with itself is such a pair
+ * docs/patterns.svg has the 27 of one and of two vertices, drawn. */
 typedef struct {
     uint32_t pattern;
     uint32_t test_cell;
