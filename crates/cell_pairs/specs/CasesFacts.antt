@@ -1,24 +1,24 @@
 -- Laws of the 27 cases. What holds of each of them is one test that is computed over all, and a law that reads it. Assumes nothing.
-use Prim.Native.Nat.{ℕ, _+_, _*_, _<_, _≤_}
+use Prim.Native.Nat.{ℕ, _+_, _*_, _<_}
 use native.Mathlib.Omega.{arith}
 use mathlib.Core.Path.{_≡_, refl, sym, ap, ap₂, _∙_}
 use mathlib.Core.Bool.{Bool, true, false, not}
 use mathlib.Core.Logic.{_⊎_, ⊎-elim}
 use mathlib.Core.List.{List, [], _∷_}
-use lib.ListN.{length, getD, List·getD-eq-default}
+use lib.ListN.{length}
 use lib.Dec.{eqb, ltb}
 use borrow.Author.Tests.{eqb-true, ltb-true, lt-ltb, ne-eqb, not-true}
 use Rattle.lists.specs.Bool.{_and_, _or_, true≢false, every, every-at, every-of, _also_, end, and-left, and-right, and-both, or-cases}
-use Rattle.lists.specs.Bounded.{all, all-at, some, least, lt-or-le}
+use Rattle.lists.specs.Bounded.{all, all-at, some, least}
 use Rattle.lists.specs.Range.{range}
 use Rattle.lists.specs.Total.{gate, count, total-add, total-ext, pick}
-use Rattle.grid.specs.Shape.{entity, has, sameTwo}
 use Rattle.lists.specs.Refusals.{refusal}
+use Rattle.grid.specs.Shape.{entity, has, sameTwo}
 use Rattle.grid.specs.Mesh.{Mesh, distinct, verticesRight, meshChecks}
 use Rattle.grid.specs.Examples.{opened-grid}
-use Rattle.numbers.specs.Ranges.{within-low, below-at}
 use Rattle.cell_pairs.specs.Patterns.{Match, _↔_, matches, edgeOf, patternOf}
 use Rattle.cell_pairs.specs.Cases.{caseAt, canBe, ofTriangles, sharedVertices, twoCells}
+use Rattle.cell_pairs.specs.SharedVertices.{vertex-below}
 use Rattle.cell_pairs.specs.MatchesFacts.{Lone, lone, Places, places-of, matchesAt, matchesBy, length-at, matches-at, has-is-place}
 
 -- ---- the test that two lists are the same
@@ -185,29 +185,19 @@ count-shared vs top i j d below =
     ∙ ap₂ _+_ (pick (entity vs j 0) top (λ x. gate (has vs i x) 1) (below 0)) (pick (entity vs j 1) top (λ x. gate (has vs i x) 1) (below 1)))
     (pick (entity vs j 2) top (λ x. gate (has vs i x) 1) (below 2))
 
--- each number of a mesh that passes check 2 is below V; past the end of the list a 0 is read
-vertex-below : (m : Mesh) → verticesRight m ≡ true → (k : ℕ) → getD (m .cellVertices) k 0 < m .vertices
-unfolding verticesRight
-vertex-below m e k =
-    let low : 3 ≤ m .vertices = within-low _ _ _ (every-at _ e 0) in
-    ⊎-elim (λ l. below-at _ _ (every-at _ e 1) k l) (λ l. rw (List·getD-eq-default (m .cellVertices) 0 l) (omega arith)) (lt-or-le k (length (m .cellVertices)))
-
 module _ (m : Mesh) (e : verticesRight m ≡ true) (i j : ℕ) (hi : i < m .cells) (hj : j < m .cells) where
   apart-at : (k : ℕ) → k < m .cells → distinct (m .cellVertices) k ≡ true
   unfolding verticesRight
   apart-at k h = all-at _ _ (every-at _ e 2) k h
 
-  shared-by : sharedVertices m i j ≡ length (matches (m .cellVertices) i j)
+  pub mesh-counts : sharedVertices m i j ≡ length (matches (m .cellVertices) i j)
   unfolding sharedVertices
-  shared-by =
+  mesh-counts =
       let vs = m .cellVertices in
       count-shared vs (m .vertices) i j (apart-at j hj) (λ q. vertex-below m e (3 * j + q))
       ∙ rw (has-is-place vs i (entity vs j 0), has-is-place vs i (entity vs j 1), has-is-place vs i (entity vs j 2)) (sym (length-at _ _ _))
       ∙ ap length (sym (matches-at vs i j (apart-at i hi)))
 
-  pub mesh-counts : length (matches (m .cellVertices) i j) ≡ sharedVertices m i j
-  mesh-counts = sym shared-by
-
   pub mesh-can-be : (sharedVertices m i j ≡ 1) ⊎ (sharedVertices m i j ≡ 2) → canBe (matches (m .cellVertices) i j) ≡ true
   mesh-can-be =
-      rw (shared-by, matches-at (m .cellVertices) i j (apart-at i hi), length-at) (few-can-be _ _ _ (places-of (m .cellVertices) i j (apart-at j hj)))
+      rw (mesh-counts, matches-at (m .cellVertices) i j (apart-at i hi), length-at) (few-can-be _ _ _ (places-of (m .cellVertices) i j (apart-at j hj)))

@@ -23,9 +23,9 @@ pub record CasesProperty : Type 0 where
   pub once : (k l : ℕ) → k < 27 → l < 27 → caseAt k .shared ≡ caseAt l .shared → k ≡ l
   -- the number of each is the formula's
   pub formula : (k : ℕ) → k < 27 → caseAt k .number ≡ patternOf (caseAt k .shared)
-  -- nothing is left over: on a mesh that passes check 2, the list of two cells has as many places as they share vertices
+  -- nothing is left over: on a mesh that passes check 2, two cells share as many vertices as their list has
   pub counted : (m : Mesh) → verticesRight m ≡ true → (i j : ℕ) → i < m .cells → j < m .cells
-      → length (matches (m .cellVertices) i j) ≡ sharedVertices m i j
+      → sharedVertices m i j ≡ length (matches (m .cellVertices) i j)
   -- and where they share one or two, it is a list that there can be, that of the case whose number is their pattern
   pub meshes : (m : Mesh) → verticesRight m ≡ true → (i j : ℕ) → i < m .cells → j < m .cells
       → (sharedVertices m i j ≡ 1) ⊎ (sharedVertices m i j ≡ 2)

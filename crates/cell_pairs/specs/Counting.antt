@@ -10,18 +10,18 @@ use mathlib.Core.List.{List, _++_}
 use lib.ListN.{length, getD, length-append, List·getD-append}
 use lib.Seq.{getD-append-add}
 use lib.Dec.{ltb}
-use borrow.Author.Tests.{eqb-true, ltb-true, not-true}
-use Rattle.lists.specs.Bool.{_and_, _or_, true≢false, every-at, and-right, or-cases}
+use borrow.Author.Tests.{ltb-true, not-true}
+use Rattle.lists.specs.Bool.{_and_, _or_, true≢false, or-cases}
 use Rattle.lists.specs.Bounded.{all, all-at, lt-or-le}
 use Rattle.lists.specs.Range.{range, length-range, all-in-at}
 use Rattle.lists.specs.Total.{gate, count, total-append, total-add, total-ext, total-length, total-const, count-split, gate-split}
 use Rattle.grid.specs.Shape.{share}
-use Rattle.numbers.specs.Ranges.{below-at}
-use Rattle.grid.specs.Mesh.{Mesh, cellsRight, verticesRight}
+use Rattle.grid.specs.Mesh.{Mesh, verticesRight}
 use Rattle.cell_pairs.specs.declared.WorkRecord.{WorkRecord}
 use Rattle.cell_pairs.specs.Records.{rec, patternCount}
 use Rattle.cell_pairs.specs.Patterns.{pattern, patternsRight}
 use Rattle.cell_pairs.specs.WorkList.{distantPart, touchingPart, workList, sharingPairs, distantPairs}
+use Rattle.cell_pairs.specs.SharedVertices.{vertex-below}
 use Rattle.cell_pairs.specs.WorkRecords.{ofPair, Distant, Touching, Right}
 use Rattle.cell_pairs.specs.WorkRecordsFacts.{distant-each, touching-each}
 use Rattle.cell_pairs.specs.CountingFacts.{distant-total, touching-total, pair-total}
@@ -47,22 +47,15 @@ patterns-known C vs e i j hi hj s =
     (or-cases (not (share vs i j)) (ltb (pattern vs i j) patternCount)
     (all-at C (λ j. not (share vs i j) or ltb (pattern vs i j) patternCount) (all-at C (λ i. all C (λ j. not (share vs i j) or ltb (pattern vs i j) patternCount)) e i hi) j hj))
 
--- checks 1 and 2 pass: each vertex number is below V
-pub vertices-below : (m : Mesh) → cellsRight m ≡ true → verticesRight m ≡ true → (k : ℕ) → k < 3 * m .cells → getD (m .cellVertices) k 0 < m .vertices
-unfolding cellsRight verticesRight
-vertices-below m one two k h =
-    let long : length (m .cellVertices) ≡ 3 * m .cells = eqb-true _ _ (and-right _ _ one) in
-    below-at _ _ (every-at _ two 1) k (omega arith)
-
 -- so planning, past its checks, has all that is asked
-pub countable : (m : Mesh) (B : ℕ) (ts rs : List ℕ) → cellsRight m ≡ true → verticesRight m ≡ true → patternsRight (m .cells) (m .cellVertices) ≡ true
+pub countable : (m : Mesh) (B : ℕ) (ts rs : List ℕ) → verticesRight m ≡ true → patternsRight (m .cells) (m .cellVertices) ≡ true
     → 0 < B → length ts ≡ m .cells → length rs ≡ m .cells → Countable m B ts rs
-countable m B ts rs one two seven h test trial =
+countable m B ts rs two seven h test trial =
     record {
       batch = h;
       testColours = test;
       trialColours = trial;
-      vertices = vertices-below m one two;
+      vertices = λ k _. vertex-below m two k;
       patterns = patterns-known (m .cells) (m .cellVertices) seven;
     }
 

@@ -1,19 +1,28 @@
 -- Laws of shared vertices: two cells share a vertex where some number is a vertex of both; the smallest such number is found below V where every
 -- vertex number is below V. Assumes nothing.
-use Prim.Native.Nat.{ℕ, _+_, _*_, _<_}
+use Prim.Native.Nat.{ℕ, _+_, _*_, _<_, _≤_}
 use native.Mathlib.Omega.{arith}
 use mathlib.Core.Path.{_≡_, sym, subst, _∙_}
 use mathlib.Core.Logic.{⊎-elim}
 use mathlib.Core.Bool.{Bool, true, false}
 use mathlib.Core.List.{List}
-use lib.ListN.{getD}
-use Rattle.lists.specs.Bool.{_and_, true≢false, cases, and-left, and-right, and-both}
+use lib.ListN.{length, getD, List·getD-eq-default}
+use Rattle.lists.specs.Bool.{_and_, true≢false, cases, every-at, and-left, and-right, and-both}
 use Rattle.lists.specs.Bounded.{least, lt-or-le, least-holds, least-before, least-none}
 use Rattle.grid.specs.Facts.{has-place, share-which, share-at}
 use Rattle.grid.specs.Shape.{has, share}
+use Rattle.grid.specs.Mesh.{Mesh, verticesRight}
+use Rattle.numbers.specs.Ranges.{within-low, below-at}
 use Rattle.cell_pairs.specs.Patterns.{smallestShared}
 
 -- ---- a vertex of a cell
+
+-- each number of a mesh that passes check 2 is below V; past the end of the list a 0 is read, which is below it too
+pub vertex-below : (m : Mesh) → verticesRight m ≡ true → (k : ℕ) → getD (m .cellVertices) k 0 < m .vertices
+unfolding verticesRight
+vertex-below m e k =
+    let low : 3 ≤ m .vertices = within-low _ _ _ (every-at _ e 0) in
+    ⊎-elim (λ l. below-at _ _ (every-at _ e 1) k l) (λ l. rw (List·getD-eq-default (m .cellVertices) 0 l) (omega arith)) (lt-or-le k (length (m .cellVertices)))
 
 -- a vertex of one of C cells is below V where each number of the vertex list is
 has-below : (vs : List ℕ) (C top : ℕ) → ((k : ℕ) → k < 3 * C → getD vs k 0 < top) → (i x : ℕ) → i < C → has vs i x ≡ true → x < top

@@ -61,7 +61,7 @@ pub counted : {x : Planning} {l : Lists} → Accepted x l
     → Countable (x .mesh) (x .batch) (colourList (testSpace x) (x .mesh .cells)) (colourList (trialSpace x) (x .mesh .cells))
 unfolding batchRight
 counted {x} ok =
-    countable (x .mesh) (x .batch) _ _ (ok .cells) (ok .vertices) (ok .patterns) (leb-true 1 (x .batch) (and-left _ _ (ok .batch)))
+    countable (x .mesh) (x .batch) _ _ (ok .vertices) (ok .patterns) (leb-true 1 (x .batch) (and-left _ _ (ok .batch)))
     (colours-long (testSpace x) (x .mesh .cells)) (colours-long (trialSpace x) (x .mesh .cells))
 
 -- checks 1 to 3 in numbers
