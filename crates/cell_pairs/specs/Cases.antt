@@ -1,6 +1,7 @@
 -- The 27 cases of one and of two shared vertices (change 2), written out in the order of their numbers, and the words in which the theorem on them
 -- (`CasesProperty`) speaks. `i ↔ j` is a vertex at test place i and trial place j, and trial places rise. Assumes nothing.
-use Prim.Native.Nat.{ℕ, _+_}
+use Prim.Native.Nat.{ℕ, _+_, _<_}
+use mathlib.Core.Path.{_≡_}
 use mathlib.Core.Bool.{Bool, false, cond, not}
 use mathlib.Core.List.{List, [], _∷_, _++_}
 use lib.ListN.{getD}
@@ -8,8 +9,8 @@ use lib.Dec.{eqb, ltb}
 use Rattle.lists.specs.Bool.{_and_, every}
 use Rattle.lists.specs.Range.{range}
 use Rattle.lists.specs.Total.{count}
-use Rattle.grid.specs.Shape.{has, firstEnd, secondEnd}
-use Rattle.grid.specs.Mesh.{Mesh}
+use Rattle.grid.specs.Cells.{has, endsOf}
+use Rattle.grid.specs.Mesh.{Mesh, triangles, kind, corners}
 use Rattle.cell_pairs.specs.Patterns.{Match, _↔_, edgeOf}
 
 -- a pattern's number, and the vertices that it shares
@@ -79,9 +80,14 @@ canBe (m ∷ n ∷ o ∷ ms) = false
 
 -- ---- on a mesh
 
+-- cell i is a triangle of the mesh
+pub record Triangle (m : Mesh) (i : ℕ) : Type 0 where
+  pub cell : i < m .cells
+  pub kind : kind m i ≡ 3
+
 -- how many vertices cells i and j share
 unfoldable pub sharedVertices : Mesh → ℕ → ℕ → ℕ
-sharedVertices m i j = count (λ x. has (m .cellVertices) i x and has (m .cellVertices) j x) (range (m .vertices))
+sharedVertices m i j = count (λ x. has (corners m i) x and has (corners m j) x) (range (m .vertices))
 
 -- the test place of the vertex at trial place q; d where it is not shared
 abbrev pub testAt : ℕ → List Match → ℕ → ℕ
@@ -94,7 +100,7 @@ abbrev pub trialVertex : List Match → ℕ → ℕ
 trialVertex ms q = testAt (3 + q) ms q
 
 abbrev pub trialEdge : List Match → ℕ → ℕ
-trialEdge ms e = let g = edgeOf (trialVertex ms (firstEnd e)) (trialVertex ms (secondEnd e)) in cond (ltb g 3) g (3 + e)
+trialEdge ms e = let g = edgeOf (trialVertex ms (endsOf 3 e .first)) (trialVertex ms (endsOf 3 e .second)) in cond (ltb g 3) g (3 + e)
 
 abbrev pub twoCells : List Match → Mesh
 twoCells ms =
@@ -102,6 +108,7 @@ twoCells ms =
       cells = 2;
       vertices = 6;
       edges = 6;
+      kinds = triangles 2;
       cellVertices = 0 ∷ 1 ∷ 2 ∷ trialVertex ms 0 ∷ trialVertex ms 1 ∷ trialVertex ms 2 ∷ [];
       cellEdges = 0 ∷ 1 ∷ 2 ∷ trialEdge ms 0 ∷ trialEdge ms 1 ∷ trialEdge ms 2 ∷ [];
     }

@@ -1,47 +1,26 @@
 -- Laws of the 27 cases. What holds of each of them is one test that is computed over all, and a law that reads it. Assumes nothing.
-use Prim.Native.Nat.{ℕ, _+_, _*_, _<_}
+use Prim.Native.Nat.{ℕ, _+_, _<_}
 use native.Mathlib.Omega.{arith}
 use mathlib.Core.Path.{_≡_, refl, sym, ap, ap₂, _∙_}
 use mathlib.Core.Bool.{Bool, true, false, not}
 use mathlib.Core.Logic.{_⊎_, ⊎-elim}
 use mathlib.Core.List.{List, [], _∷_}
-use lib.ListN.{length}
+use lib.ListN.{length, getD}
 use lib.Dec.{eqb, ltb}
 use borrow.Author.Tests.{eqb-true, ltb-true, lt-ltb, ne-eqb, not-true}
 use Rattle.lists.specs.Bool.{_and_, _or_, true≢false, every, every-at, every-of, _also_, end, and-left, and-right, and-both, or-cases}
-use Rattle.lists.specs.Bounded.{all, all-at, some, least}
+use Rattle.lists.specs.Bounded.{all, all-at, least}
 use Rattle.lists.specs.Range.{range}
 use Rattle.lists.specs.Total.{gate, count, total-add, total-ext, pick}
 use Rattle.lists.specs.Refusals.{refusal}
-use Rattle.grid.specs.Shape.{entity, has, sameTwo}
-use Rattle.grid.specs.Mesh.{Mesh, distinct, verticesRight, meshChecks}
+use Rattle.grid.specs.Cells.{own, has, distinct, sameTwo}
+use Rattle.grid.specs.CellsFacts.{length-part}
+use Rattle.grid.specs.Mesh.{Mesh, corners, vertexPlaces, verticesRight, meshChecks}
 use Rattle.grid.specs.Examples.{opened-grid}
-use Rattle.cell_pairs.specs.Patterns.{Match, _↔_, matches, edgeOf, patternOf}
-use Rattle.cell_pairs.specs.Cases.{caseAt, canBe, ofTriangles, sharedVertices, twoCells}
+use Rattle.cell_pairs.specs.Patterns.{Match, _↔_, sameMatches, matches, edgeOf, patternOf}
+use Rattle.cell_pairs.specs.Cases.{caseAt, canBe, ofTriangles, Triangle, sharedVertices, twoCells}
 use Rattle.cell_pairs.specs.SharedVertices.{vertex-below}
-use Rattle.cell_pairs.specs.MatchesFacts.{Lone, lone, Places, places-of, matchesAt, matchesBy, length-at, matches-at, has-is-place}
-
--- ---- the test that two lists are the same
-
-unfoldable sameMatches : List Match → List Match → Bool
-sameMatches [] [] = true
-sameMatches [] (n ∷ ns) = false
-sameMatches (m ∷ ms) [] = false
-sameMatches (m ∷ ms) (n ∷ ns) = eqb (m .test) (n .test) and eqb (m .trial) (n .trial) and sameMatches ms ns
-
-joined : {a a′ b b′ : ℕ} {ms ms′ : List Match} → a ≡ a′ → b ≡ b′ → ms ≡ ms′ → _≡_ {A = List Match} (a ↔ b ∷ ms) (a′ ↔ b′ ∷ ms′)
-joined p q r = rw (p, q, r)
-
-same-matches : (ms ns : List Match) → sameMatches ms ns ≡ true → ms ≡ ns
-unfolding sameMatches
-same-matches [] [] e = refl
-same-matches [] (n ∷ ns) e = absurd (true≢false (sym e))
-same-matches (m ∷ ms) [] e = absurd (true≢false (sym e))
-same-matches (m ∷ ms) (n ∷ ns) e =
-    let a : Bool = eqb (m .test) (n .test) in
-    let b : Bool = eqb (m .trial) (n .trial) in
-    let front : a and b ≡ true = and-left (a and b) (sameMatches ms ns) e in
-    joined (eqb-true _ _ (and-left a b front)) (eqb-true _ _ (and-right a b front)) (same-matches ms ns (and-right (a and b) (sameMatches ms ns) e))
+use Rattle.cell_pairs.specs.MatchesFacts.{same-matches, Lone, lone, Places, places-of, matchesAt, matchesBy, length-at, matches-at, has-three, has-is-place}
 
 -- ---- computed over the 27
 
@@ -68,14 +47,14 @@ case-formula k l = eqb-true _ _ (all-at 27 (λ k. eqb (patternOf (caseAt k .shar
 
 -- each occurs: the two cells that are made from its list have that list
 abbrev occursAt : ℕ → Bool
-occursAt k = eqb (refusal (meshChecks (twoCells (caseAt k .shared)))) 0 and sameMatches (matches (twoCells (caseAt k .shared) .cellVertices) 0 1) (caseAt k .shared)
+occursAt k = eqb (refusal (meshChecks (twoCells (caseAt k .shared)))) 0 and sameMatches (matches (corners (twoCells (caseAt k .shared)) 0) (corners (twoCells (caseAt k .shared)) 1)) (caseAt k .shared)
 
 occurs-computed : all 27 occursAt ≡ true
 unfolding opened-grid edgeOf matches sameMatches
 occurs-computed = refl
 
 pub case-occurs : (k : ℕ) → k < 27
-    → (refusal (meshChecks (twoCells (caseAt k .shared))) ≡ 0) × (matches (twoCells (caseAt k .shared) .cellVertices) 0 1 ≡ caseAt k .shared)
+    → (refusal (meshChecks (twoCells (caseAt k .shared))) ≡ 0) × (matches (corners (twoCells (caseAt k .shared)) 0) (corners (twoCells (caseAt k .shared)) 1) ≡ caseAt k .shared)
 case-occurs k l =
     let e = all-at 27 occursAt occurs-computed k l in
     (eqb-true _ _ (and-left _ _ e), same-matches _ _ (and-right (eqb (refusal (meshChecks (twoCells (caseAt k .shared)))) 0) _ e))
@@ -172,32 +151,39 @@ gate-three true false false true h = refl
 gate-three true false false false h = refl
 gate-three false e f g h = rw (gate-none e, gate-none f, gate-none g)
 
--- as many as there are vertices of cell j in cell i
-count-shared : (vs : List ℕ) (top i j : ℕ) → distinct vs j ≡ true → ((q : ℕ) → entity vs j q < top)
-    → count (λ x. has vs i x and has vs j x) (range top) ≡ gate (has vs i (entity vs j 0)) 1 + gate (has vs i (entity vs j 1)) 1 + gate (has vs i (entity vs j 2)) 1
-unfolding has some _or_
-count-shared vs top i j d below =
-    let at : ℕ → ℕ → ℕ = λ q x. gate (eqb (entity vs j q) x) (gate (has vs i x) 1) in
-    total-ext _ (λ x. at 0 x + at 1 x + at 2 x) (λ x. gate-three (has vs i x) _ _ _ (lone vs j x d)) (range top)
+-- as many as there are vertices of the trial triangle in the test triangle
+count-shared : (xs ys : List ℕ) (top : ℕ) → length ys ≡ 3 → distinct ys ≡ true → ((q : ℕ) → q < 3 → getD ys q 0 < top)
+    → count (λ x. has xs x and has ys x) (range top) ≡ gate (has xs (getD ys 0 0)) 1 + gate (has xs (getD ys 1 0)) 1 + gate (has xs (getD ys 2 0)) 1
+count-shared xs ys top n d below =
+    let at : ℕ → ℕ → ℕ = λ q x. gate (eqb (getD ys q 0) x) (gate (has xs x) 1) in
+    total-ext _ (λ x. at 0 x + at 1 x + at 2 x)
+    (λ x. ap (λ (b : Bool). gate (has xs x and b) 1) (has-three ys x n) ∙ gate-three (has xs x) _ _ _ (lone ys x n d)) (range top)
     ∙ total-add (λ x. at 0 x + at 1 x) (at 2) (range top)
     ∙ ap₂ _+_
     (total-add (at 0) (at 1) (range top)
-    ∙ ap₂ _+_ (pick (entity vs j 0) top (λ x. gate (has vs i x) 1) (below 0)) (pick (entity vs j 1) top (λ x. gate (has vs i x) 1) (below 1)))
-    (pick (entity vs j 2) top (λ x. gate (has vs i x) 1) (below 2))
+    ∙ ap₂ _+_ (pick (getD ys 0 0) top (λ x. gate (has xs x) 1) (below 0 (omega arith))) (pick (getD ys 1 0) top (λ x. gate (has xs x) 1) (below 1 (omega arith))))
+    (pick (getD ys 2 0) top (λ x. gate (has xs x) 1) (below 2 (omega arith)))
 
-module _ (m : Mesh) (e : verticesRight m ≡ true) (i j : ℕ) (hi : i < m .cells) (hj : j < m .cells) where
-  apart-at : (k : ℕ) → k < m .cells → distinct (m .cellVertices) k ≡ true
+module _ (m : Mesh) (places : vertexPlaces m ≡ true) (e : verticesRight m ≡ true) (i j : ℕ) (hi : Triangle m i) (hj : Triangle m j) where
+  apart-at : (k : ℕ) → k < m .cells → distinct (corners m k) ≡ true
   unfolding verticesRight
   apart-at k h = all-at _ _ (every-at _ e 2) k h
 
-  pub mesh-counts : sharedVertices m i j ≡ length (matches (m .cellVertices) i j)
+  three-at : (k : ℕ) → Triangle m k → length (corners m k) ≡ 3
+  unfolding corners vertexPlaces
+  three-at k h = length-part own (m .kinds) (m .cellVertices) (m .cells) k (eqb-true _ _ places) (h .cell) ∙ h .kind
+
+  pub mesh-counts : sharedVertices m i j ≡ length (matches (corners m i) (corners m j))
   unfolding sharedVertices
   mesh-counts =
-      let vs = m .cellVertices in
-      count-shared vs (m .vertices) i j (apart-at j hj) (λ q. vertex-below m e (3 * j + q))
-      ∙ rw (has-is-place vs i (entity vs j 0), has-is-place vs i (entity vs j 1), has-is-place vs i (entity vs j 2)) (sym (length-at _ _ _))
-      ∙ ap length (sym (matches-at vs i j (apart-at i hi)))
+      let xs = corners m i in
+      let ys = corners m j in
+      let three = three-at i hi in
+      count-shared xs ys (m .vertices) (three-at j hj) (apart-at j (hj .cell)) (λ q l. vertex-below m e j q (omega (arith, three-at j hj)))
+      ∙ rw (has-is-place xs (getD ys 0 0) three, has-is-place xs (getD ys 1 0) three, has-is-place xs (getD ys 2 0) three) (sym (length-at _ _ _))
+      ∙ ap length (sym (matches-at xs ys three (three-at j hj) (apart-at i (hi .cell))))
 
-  pub mesh-can-be : (sharedVertices m i j ≡ 1) ⊎ (sharedVertices m i j ≡ 2) → canBe (matches (m .cellVertices) i j) ≡ true
+  pub mesh-can-be : (sharedVertices m i j ≡ 1) ⊎ (sharedVertices m i j ≡ 2) → canBe (matches (corners m i) (corners m j)) ≡ true
   mesh-can-be =
-      rw (mesh-counts, matches-at (m .cellVertices) i j (apart-at i hi), length-at) (few-can-be _ _ _ (places-of (m .cellVertices) i j (apart-at j hj)))
+      rw (mesh-counts, matches-at (corners m i) (corners m j) (three-at i hi) (three-at j hj) (apart-at i (hi .cell)), length-at)
+      (few-can-be _ _ _ (places-of (corners m i) (corners m j) (three-at j hj) (apart-at j (hj .cell))))

@@ -7,9 +7,9 @@ use mathlib.Core.Logic.{_⊎_}
 use mathlib.Core.List.{List}
 use lib.ListN.{length}
 use Rattle.lists.specs.Refusals.{refusal}
-use Rattle.grid.specs.Mesh.{Mesh, verticesRight, meshChecks}
-use Rattle.cell_pairs.specs.Patterns.{Match, matches, patternOf, pattern}
-use Rattle.cell_pairs.specs.Cases.{cases, caseAt, canBe, sharedVertices, twoCells}
+use Rattle.grid.specs.Mesh.{Mesh, corners, vertexPlaces, verticesRight, meshChecks}
+use Rattle.cell_pairs.specs.Patterns.{Match, matches, patternOf, pattern, pairPattern}
+use Rattle.cell_pairs.specs.Cases.{cases, caseAt, canBe, Triangle, sharedVertices, twoCells}
 use Rattle.cell_pairs.specs.CasesFacts.{case-number, case-can-be, case-formula, case-occurs, can-be-case, mesh-counts, mesh-can-be}
 
 pub record CasesProperty : Type 0 where
@@ -23,19 +23,19 @@ pub record CasesProperty : Type 0 where
   pub once : (k l : ℕ) → k < 27 → l < 27 → caseAt k .shared ≡ caseAt l .shared → k ≡ l
   -- the number of each is the formula's
   pub formula : (k : ℕ) → k < 27 → caseAt k .number ≡ patternOf (caseAt k .shared)
-  -- nothing is left over: on a mesh that passes check 2, two cells share as many vertices as their list has
-  pub counted : (m : Mesh) → verticesRight m ≡ true → (i j : ℕ) → i < m .cells → j < m .cells
-      → sharedVertices m i j ≡ length (matches (m .cellVertices) i j)
+  -- nothing is left over: on a mesh that passes checks 1, 26 and 2, two triangles share as many vertices as their list has
+  pub counted : (m : Mesh) → vertexPlaces m ≡ true → verticesRight m ≡ true → (i j : ℕ) → Triangle m i → Triangle m j
+      → sharedVertices m i j ≡ length (matches (corners m i) (corners m j))
   -- and where they share one or two, it is a list that there can be, that of the case whose number is their pattern
-  pub meshes : (m : Mesh) → verticesRight m ≡ true → (i j : ℕ) → i < m .cells → j < m .cells
+  pub meshes : (m : Mesh) → vertexPlaces m ≡ true → verticesRight m ≡ true → (i j : ℕ) → Triangle m i → Triangle m j
       → (sharedVertices m i j ≡ 1) ⊎ (sharedVertices m i j ≡ 2)
-      → (canBe (matches (m .cellVertices) i j) ≡ true)
-      × (pattern (m .cellVertices) i j < 27)
-      × (caseAt (pattern (m .cellVertices) i j) .shared ≡ matches (m .cellVertices) i j)
+      → (canBe (matches (corners m i) (corners m j)) ≡ true)
+      × (pairPattern m i j < 27)
+      × (caseAt (pairPattern m i j) .shared ≡ matches (corners m i) (corners m j))
   -- no case is idle: each is the list of the two cells of a mesh that passes checks 1 to 3
   pub occurs : (k : ℕ) → k < 27
       → (refusal (meshChecks (twoCells (caseAt k .shared))) ≡ 0)
-      × (matches (twoCells (caseAt k .shared) .cellVertices) 0 1 ≡ caseAt k .shared)
+      × (matches (corners (twoCells (caseAt k .shared)) 0) (corners (twoCells (caseAt k .shared)) 1) ≡ caseAt k .shared)
 
 pub cases-property : CasesProperty
 unfolding pattern
@@ -48,6 +48,6 @@ cases-property =
       once = λ k l hk hl e. sym (case-formula k hk) ∙ ap patternOf e ∙ case-formula l hl;
       formula = λ k h. case-number k h ∙ sym (case-formula k h);
       counted = mesh-counts;
-      meshes = λ m e i j hi hj s. let c = mesh-can-be m e i j hi hj s in let f = can-be-case (matches (m .cellVertices) i j) c in (c, f .0, f .1);
+      meshes = λ m p e i j hi hj s. let c = mesh-can-be m p e i j hi hj s in let f = can-be-case (matches (corners m i) (corners m j)) c in (c, f .0, f .1);
       occurs = case-occurs;
     }

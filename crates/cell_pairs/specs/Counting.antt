@@ -15,11 +15,11 @@ use Rattle.lists.specs.Bool.{_and_, _or_, true≢false, or-cases}
 use Rattle.lists.specs.Bounded.{all, all-at, lt-or-le}
 use Rattle.lists.specs.Range.{range, length-range, all-in-at}
 use Rattle.lists.specs.Total.{gate, count, total-append, total-add, total-ext, total-length, total-const, count-split, gate-split}
-use Rattle.grid.specs.Shape.{share}
-use Rattle.grid.specs.Mesh.{Mesh, verticesRight}
+use Rattle.grid.specs.Mesh.{Mesh, corners, kindsRight, verticesRight}
+use Rattle.grid.specs.KindsFacts.{Kinded, kinded}
 use Rattle.cell_pairs.specs.declared.WorkRecord.{WorkRecord}
 use Rattle.cell_pairs.specs.Records.{rec, patternCount}
-use Rattle.cell_pairs.specs.Patterns.{pattern, patternsRight}
+use Rattle.cell_pairs.specs.Patterns.{touch, pairPattern, patternsRight}
 use Rattle.cell_pairs.specs.WorkList.{distantPart, touchingPart, workList, sharingPairs, distantPairs}
 use Rattle.cell_pairs.specs.SharedVertices.{vertex-below}
 use Rattle.cell_pairs.specs.WorkRecords.{ofPair, Distant, Touching, Right}
@@ -31,32 +31,34 @@ use Rattle.cell_pairs.specs.CountingFacts.{distant-total, touching-total
 pub record Countable (m : Mesh) (B : ℕ) (ts rs : List ℕ) : Type 0 where
   -- a batch holds a cell
   pub batch : 0 < B
-  -- each cell has a colour, for the test and for the trial element
+  -- each cell has a kind, 3 or 4, and a colour for the test and for the trial element
+  pub kinds : Kinded (m .cells) (m .kinds)
   pub testColours : length ts ≡ m .cells
   pub trialColours : length rs ≡ m .cells
-  -- each vertex number is below V
-  pub vertices : (k : ℕ) → k < 3 * m .cells → getD (m .cellVertices) k 0 < m .vertices
+  -- each vertex of a cell is below V
+  pub vertices : (i p : ℕ) → p < length (corners m i) → getD (corners m i) p 0 < m .vertices
   -- each pair that shares a vertex has a pattern of the list
-  pub patterns : (i j : ℕ) → i < m .cells → j < m .cells → share (m .cellVertices) i j ≡ true → pattern (m .cellVertices) i j < patternCount
+  pub patterns : (i j : ℕ) → i < m .cells → j < m .cells → touch m i j ≡ true → pairPattern m i j < patternCount
 
 -- check 7 passes: the patterns are of the list
-pub patterns-known : (C : ℕ) (vs : List ℕ) → patternsRight C vs ≡ true → (i j : ℕ) → i < C → j < C → share vs i j ≡ true → pattern vs i j < patternCount
+pub patterns-known : (m : Mesh) → patternsRight m ≡ true → (i j : ℕ) → i < m .cells → j < m .cells → touch m i j ≡ true → pairPattern m i j < patternCount
 unfolding patternsRight
-patterns-known C vs e i j hi hj s =
-    ⊎-elim (λ n. absurd (true≢false (sym s ∙ not-true (share vs i j) n))) (λ l. ltb-true _ _ l)
-    (or-cases (not (share vs i j)) (ltb (pattern vs i j) patternCount)
-    (all-at C (λ j. not (share vs i j) or ltb (pattern vs i j) patternCount) (all-at C (λ i. all C (λ j. not (share vs i j) or ltb (pattern vs i j) patternCount)) e i hi) j hj))
+patterns-known m e i j hi hj s =
+    ⊎-elim (λ n. absurd (true≢false (sym s ∙ not-true (touch m i j) n))) (λ l. ltb-true _ _ l)
+    (or-cases (not (touch m i j)) (ltb (pairPattern m i j) patternCount)
+    (all-at (m .cells) (λ j. not (touch m i j) or ltb (pairPattern m i j) patternCount) (all-at (m .cells) (λ i. all (m .cells) (λ j. not (touch m i j) or ltb (pairPattern m i j) patternCount)) e i hi) j hj))
 
 -- so planning, past its checks, has all that is asked
-pub countable : (m : Mesh) (B : ℕ) (ts rs : List ℕ) → verticesRight m ≡ true → patternsRight (m .cells) (m .cellVertices) ≡ true
+pub countable : (m : Mesh) (B : ℕ) (ts rs : List ℕ) → kindsRight m ≡ true → verticesRight m ≡ true → patternsRight m ≡ true
     → 0 < B → length ts ≡ m .cells → length rs ≡ m .cells → Countable m B ts rs
-countable m B ts rs two seven h test trial =
+countable m B ts rs kinds two seven h test trial =
     record {
       batch = h;
+      kinds = kinded m kinds;
       testColours = test;
       trialColours = trial;
-      vertices = λ k _. vertex-below m two k;
-      patterns = patterns-known (m .cells) (m .cellVertices) seven;
+      vertices = vertex-below m two;
+      patterns = patterns-known m seven;
     }
 
 -- ---- how many
@@ -67,7 +69,7 @@ unfolding sharingPairs distantPairs
 split m =
     let C = m .cells in
     sym (total-add _ _ (range C))
-    ∙ total-ext _ (λ _. C) (λ i. count-split (λ j. share (m .cellVertices) i j) (range C) ∙ length-range C) (range C)
+    ∙ total-ext _ (λ _. C) (λ i. count-split (λ j. touch m i j) (range C) ∙ length-range C) (range C)
     ∙ total-const C (range C)
     ∙ ap (λ (k : ℕ). k * C) (length-range C)
 
@@ -75,7 +77,7 @@ module _ (m : Mesh) (B : ℕ) (ts rs : List ℕ) (h : Countable m B ts rs) where
   -- N records are distant
   pub length-distant : length (distantPart m B ts rs) ≡ distantPairs m
   unfolding distantPairs
-  length-distant = sym (total-length (distantPart m B ts rs)) ∙ distant-total (λ _. 1) m B ts rs (h .batch) (h .testColours) (h .trialColours)
+  length-distant = sym (total-length (distantPart m B ts rs)) ∙ distant-total (λ _. 1) m B ts rs (h .batch) (h .kinds) (h .testColours) (h .trialColours)
 
   -- S records are touching
   pub length-touching : length (touchingPart m) ≡ sharingPairs m
@@ -90,15 +92,15 @@ module _ (m : Mesh) (B : ℕ) (ts rs : List ℕ) (h : Countable m B ts rs) where
   -- ---- each ordered pair once
 
   -- a pair stands in the distant part once where it shares no vertex, else not at all
-  pub once-distant : (i j : ℕ) → i < m .cells → j < m .cells → count (ofPair i j) (distantPart m B ts rs) ≡ gate (not (share (m .cellVertices) i j)) 1
+  pub once-distant : (i j : ℕ) → i < m .cells → j < m .cells → count (ofPair i j) (distantPart m B ts rs) ≡ gate (not (touch m i j)) 1
   once-distant i j hi hj =
-      distant-total (λ r. gate (ofPair i j r) 1) m B ts rs (h .batch) (h .testColours) (h .trialColours)
-      ∙ pair-total (λ i j. not (share (m .cellVertices) i j)) (m .cells) i j hi hj
+      distant-total (λ r. gate (ofPair i j r) 1) m B ts rs (h .batch) (h .kinds) (h .testColours) (h .trialColours)
+      ∙ pair-total (λ i j. not (touch m i j)) (m .cells) i j hi hj
 
   -- and in the touching part the other way round
-  pub once-touching : (i j : ℕ) → i < m .cells → j < m .cells → count (ofPair i j) (touchingPart m) ≡ gate (share (m .cellVertices) i j) 1
+  pub once-touching : (i j : ℕ) → i < m .cells → j < m .cells → count (ofPair i j) (touchingPart m) ≡ gate (touch m i j) 1
   once-touching i j hi hj =
-      touching-total (λ r. gate (ofPair i j r) 1) m (h .vertices) (h .patterns) ∙ pair-total (λ i j. share (m .cellVertices) i j) (m .cells) i j hi hj
+      touching-total (λ r. gate (ofPair i j r) 1) m (h .vertices) (h .patterns) ∙ pair-total (λ i j. touch m i j) (m .cells) i j hi hj
 
   -- each ordered pair of cells stands on the work list exactly once
   pub once : (i j : ℕ) → i < m .cells → j < m .cells → count (ofPair i j) (workList m B ts rs) ≡ 1
@@ -106,8 +108,8 @@ module _ (m : Mesh) (B : ℕ) (ts rs : List ℕ) (h : Countable m B ts rs) where
   once i j hi hj =
       total-append (λ r. gate (ofPair i j r) 1) (distantPart m B ts rs) (touchingPart m)
       ∙ ap₂ _+_ (once-distant i j hi hj) (once-touching i j hi hj)
-      ∙ add-comm (gate (not (share (m .cellVertices) i j)) 1) (gate (share (m .cellVertices) i j) 1)
-      ∙ gate-split (share (m .cellVertices) i j) 1
+      ∙ add-comm (gate (not (touch m i j)) 1) (gate (touch m i j) 1)
+      ∙ gate-split (touch m i j) 1
 
   -- ---- each record, by its place k on the list
 

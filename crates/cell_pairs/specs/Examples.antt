@@ -1,27 +1,28 @@
--- M4, M5 and M7 of the paper, as records. (The text that `worklist` prints of them is in `worklist_text`.) Assumes nothing.
+-- M4, M5 and M7 of the paper, as records, and the distant pairs of a mesh of triangles and a quad. (The text that `worklist` prints of the paper's is in
+-- `worklist_text`.) Assumes nothing.
 use Prim.Native.Nat.{ℕ}
 use mathlib.Core.Path.{refl}
 use mathlib.Core.List.{List, [], _∷_}
 use Rattle.lists.specs.Examples.{Example, example, Holds}
 use Rattle.grid.specs.Mesh.{Mesh}
 use Rattle.grid.specs.Examples.{M, M7-twice}
-use Rattle.function.specs.Elements.{Space}
+use Rattle.function.specs.Elements.{alike, Space}
 use Rattle.function.specs.Colours.{colourList}
 use Rattle.function.specs.Examples.{element, opened-function}
 use Rattle.cell_pairs.specs.declared.WorkRecord.{WorkRecord}
 use Rattle.cell_pairs.specs.Records.{rec, flat}
 use Rattle.cell_pairs.specs.Patterns.{matches, edgeOf, patternOf, pattern, smallestShared, patternsRight}
-use Rattle.cell_pairs.specs.WorkList.{coloured, distantPair, distantBatch, distantColours, distantPart, touchingPair, touchingPart, workList, sharingPairs, distantPairs}
+use Rattle.cell_pairs.specs.WorkList.{coloured, distantPair, distantBatch, distantColours, distantKinds, distantPart, touchingPair, touchingPart, workList, sharingPairs, distantPairs}
 
 -- opens the definitions of this crate and of those below it
 unfoldable pub opened-cell-pairs : Unit {0}
-unfolding opened-function matches edgeOf patternOf pattern smallestShared patternsRight coloured distantPair distantBatch distantColours distantPart touchingPair touchingPart workList flat sharingPairs distantPairs
+unfolding opened-function matches edgeOf patternOf pattern smallestShared patternsRight coloured distantPair distantBatch distantColours distantKinds distantPart touchingPair touchingPart workList flat sharingPairs distantPairs
 opened-cell-pairs = tt
 
 -- the work list where both elements have a = 1
 abbrev records : Mesh → ℕ → List WorkRecord
 records m B =
-    let space : Space = record { cellVertices = m .cellVertices; cellEdges = m .cellEdges; element = element 1 0 0 } in
+    let space : Space = record { kinds = m .kinds; cellVertices = m .cellVertices; cellEdges = m .cellEdges; elements = alike (element 1 0 0) } in
     workList m B (colourList space (m .cells)) (colourList space (m .cells))
 
 -- M4: both elements a = 1, batch 2
@@ -52,12 +53,36 @@ pub M7-records-holds : Holds M7-records
 unfolding opened-cell-pairs
 M7-records-holds = refl
 
--- Beside the paper's: cells (0,1,2), (2,1,3) run along their edge in opposite directions, which is the plus 1; cells (0,1,2), (3,2,4) meet at places 2 and 1
+-- Beside the paper's: C = 4, triangle (0,1,2), quad (3,4,5,6), triangles (7,8,9), (9,10,11); the last two share vertex 9, so one of them has colour 1
+abbrev mixed : Mesh
+mixed =
+    record {
+      cells = 4;
+      vertices = 12;
+      edges = 13;
+      kinds = 3 ∷ 4 ∷ 3 ∷ 3 ∷ [];
+      cellVertices = 0 ∷ 1 ∷ 2 ∷ 3 ∷ 4 ∷ 5 ∷ 6 ∷ 7 ∷ 8 ∷ 9 ∷ 9 ∷ 10 ∷ 11 ∷ [];
+      cellEdges = 0 ∷ 1 ∷ 2 ∷ 3 ∷ 4 ∷ 5 ∷ 6 ∷ 7 ∷ 8 ∷ 9 ∷ 10 ∷ 11 ∷ 12 ∷ [];
+    }
+
+-- batch 2: triangles with triangles, where 0 and 2 are one batch; triangles with the quad; the quad with triangles
+abbrev pub mixed-records : Example
+mixed-records =
+    let colours : List ℕ = 0 ∷ 0 ∷ 0 ∷ 1 ∷ [] in
+    example (distantPart mixed 2 colours colours)
+    (rec 255 2 0 ∷ rec 255 0 2 ∷ rec 255 0 3 ∷ rec 255 3 0 ∷ rec 255 0 1 ∷ rec 255 2 1 ∷ rec 255 3 1 ∷ rec 255 1 0 ∷ rec 255 1 2 ∷ rec 255 1 3 ∷ [])
+
+pub mixed-records-holds : Holds mixed-records
+unfolding opened-cell-pairs
+mixed-records-holds = refl
+
+-- cells (0,1,2), (2,1,3) run along their edge in opposite directions, which is the plus 1; cells (0,1,2), (3,2,4) meet at places 2 and 1
 abbrev pub patterns : Example
 patterns =
-    let opposite : List ℕ = 0 ∷ 1 ∷ 2 ∷ 2 ∷ 1 ∷ 3 ∷ [] in
-    let corner : List ℕ = 0 ∷ 1 ∷ 2 ∷ 3 ∷ 2 ∷ 4 ∷ [] in
-    example (pattern opposite 0 1 ∷ pattern opposite 1 0 ∷ pattern corner 0 1 ∷ pattern corner 1 0 ∷ []) (14 ∷ 22 ∷ 7 ∷ 5 ∷ [])
+    let first : List ℕ = 0 ∷ 1 ∷ 2 ∷ [] in
+    let opposite : List ℕ = 2 ∷ 1 ∷ 3 ∷ [] in
+    let corner : List ℕ = 3 ∷ 2 ∷ 4 ∷ [] in
+    example (pattern first opposite ∷ pattern opposite first ∷ pattern first corner ∷ pattern corner first ∷ []) (14 ∷ 22 ∷ 7 ∷ 5 ∷ [])
 
 pub patterns-hold : Holds patterns
 unfolding opened-cell-pairs

@@ -1,20 +1,43 @@
--- The shared vertices of two cells, by places: in a cell without a vertex twice a vertex has one place at most, so their list follows from the test places
--- of the three trial vertices. Assumes nothing.
+-- The shared vertices of two triangles, by places: in a cell without a vertex twice a vertex has one place at most, so their list follows from the test
+-- places of the three trial vertices. Assumes nothing.
 use Prim.Native.Nat.{ℕ, _+_, _<_}
 use native.Mathlib.Omega.{arith}
 use mathlib.Core.Path.{_≡_, refl, sym, ap, ap₂, _∙_}
 use mathlib.Core.Bool.{Bool, true, false}
 use mathlib.Core.List.{List, [], _∷_, _++_, flatMap, append-nil}
-use lib.ListN.{length}
+use lib.ListN.{length, getD}
 use lib.Dec.{eqb, ltb}
-use borrow.Author.Tests.{eqb-true, eqb-false, not-true}
-use Rattle.lists.specs.Bool.{_or_, or-no-left, or-no-right}
+use borrow.Author.Tests.{eqb-true, eq-eqb}
+use Rattle.lists.specs.Bool.{_and_, _or_, true≢false, and-left, and-right, and-both}
 use Rattle.lists.specs.Bounded.{some}
 use Rattle.lists.specs.Range.{range, when}
 use Rattle.lists.specs.Total.{gate}
-use Rattle.grid.specs.Shape.{entity, has}
-use Rattle.grid.specs.Mesh.{distinct}
-use Rattle.cell_pairs.specs.Patterns.{Match, _↔_, matches}
+use Rattle.grid.specs.Cells.{has, distinct}
+use Rattle.grid.specs.Facts.{vertices-differ}
+use Rattle.cell_pairs.specs.Patterns.{Match, _↔_, sameMatches, matches}
+
+-- ---- the test that two lists are the same
+
+pub joined : {a a′ b b′ : ℕ} {ms ms′ : List Match} → a ≡ a′ → b ≡ b′ → ms ≡ ms′ → _≡_ {A = List Match} (a ↔ b ∷ ms) (a′ ↔ b′ ∷ ms′)
+joined p q r = rw (p, q, r)
+
+pub same-matches : (ms ns : List Match) → sameMatches ms ns ≡ true → ms ≡ ns
+unfolding sameMatches
+same-matches [] [] e = refl
+same-matches [] (n ∷ ns) e = absurd (true≢false (sym e))
+same-matches (m ∷ ms) [] e = absurd (true≢false (sym e))
+same-matches (m ∷ ms) (n ∷ ns) e =
+    let a : Bool = eqb (m .test) (n .test) in
+    let b : Bool = eqb (m .trial) (n .trial) in
+    let front : a and b ≡ true = and-left (a and b) (sameMatches ms ns) e in
+    joined (eqb-true _ _ (and-left a b front)) (eqb-true _ _ (and-right a b front)) (same-matches ms ns (and-right (a and b) (sameMatches ms ns) e))
+
+pub same-matches-refl : (ms : List Match) → sameMatches ms ms ≡ true
+unfolding sameMatches
+same-matches-refl [] = refl
+same-matches-refl (m ∷ ms) = and-both _ _ (and-both _ _ (eq-eqb (m .test) (m .test) refl) (eq-eqb (m .trial) (m .trial) refl)) (same-matches-refl ms)
+
+-- ---- places
 
 -- of tests at places 0, 1 and 2 the first that holds; 3 where none does
 unfoldable pub firstOf : Bool → Bool → Bool → ℕ
@@ -23,9 +46,9 @@ firstOf false true c = 1
 firstOf false false true = 2
 firstOf false false false = 3
 
--- the place of vertex x in cell i; 3 where it has none
-abbrev pub place : List ℕ → ℕ → ℕ → ℕ
-place vs i x = firstOf (eqb (entity vs i 0) x) (eqb (entity vs i 1) x) (eqb (entity vs i 2) x)
+-- the place of vertex x in a triangle; 3 where it has none
+abbrev pub place : List ℕ → ℕ → ℕ
+place xs x = firstOf (eqb (getD xs 0 0) x) (eqb (getD xs 1 0) x) (eqb (getD xs 2 0) x)
 
 -- the match of test place p and trial place q, if there is one
 abbrev matched : ℕ → ℕ → List Match
@@ -59,21 +82,19 @@ pub length-at : (a b c : ℕ) → length (matchesAt a b c) ≡ gate (ltb a 3) 1 
 unfolding matchesAt
 length-at a b c = length-by (ltb a 3) (ltb b 3) (ltb c 3) a b c
 
--- the three vertices of cell i are apart
-record Apart (vs : List ℕ) (i : ℕ) : Type 0 where
-  ab : entity vs i 0 ≡ entity vs i 1 → ⊥
-  ac : entity vs i 0 ≡ entity vs i 2 → ⊥
-  bc : entity vs i 1 ≡ entity vs i 2 → ⊥
+-- the three vertices of a triangle are apart
+record Apart (xs : List ℕ) : Type 0 where
+  ab : getD xs 0 0 ≡ getD xs 1 0 → ⊥
+  ac : getD xs 0 0 ≡ getD xs 2 0 → ⊥
+  bc : getD xs 1 0 ≡ getD xs 2 0 → ⊥
 
-apart : (vs : List ℕ) (i : ℕ) → distinct vs i ≡ true → Apart vs i
-unfolding distinct
-apart vs i d =
-    let n = not-true _ d in
-    let m = or-no-left _ _ n in
+apart : (xs : List ℕ) → length xs ≡ 3 → distinct xs ≡ true → Apart xs
+apart xs n d =
+    let differ : (p q : ℕ) → p < 3 → q < 3 → getD xs p 0 ≡ getD xs q 0 → p ≡ q = λ p q lp lq. vertices-differ xs d p q (omega (arith, n)) (omega (arith, n)) in
     record {
-      ab = eqb-false _ _ (or-no-left _ _ m);
-      ac = eqb-false _ _ (or-no-right _ _ m);
-      bc = eqb-false _ _ (or-no-right _ _ n);
+      ab = λ e. let z : _≡_ {A = ℕ} 0 1 = differ 0 1 (omega arith) (omega arith) e in absurd (omega arith);
+      ac = λ e. let z : _≡_ {A = ℕ} 0 2 = differ 0 2 (omega arith) (omega arith) e in absurd (omega arith);
+      bc = λ e. let z : _≡_ {A = ℕ} 1 2 = differ 1 2 (omega arith) (omega arith) e in absurd (omega arith);
     }
 
 -- at most one of three tests holds
@@ -82,9 +103,9 @@ pub record Lone (e f g : Bool) : Type 0 where
   pub eg : e ≡ true → g ≡ true → ⊥
   pub fg : f ≡ true → g ≡ true → ⊥
 
-pub lone : (vs : List ℕ) (i x : ℕ) → distinct vs i ≡ true → Lone (eqb (entity vs i 0) x) (eqb (entity vs i 1) x) (eqb (entity vs i 2) x)
-lone vs i x d =
-    let h = apart vs i d in
+pub lone : (xs : List ℕ) (x : ℕ) → length xs ≡ 3 → distinct xs ≡ true → Lone (eqb (getD xs 0 0) x) (eqb (getD xs 1 0) x) (eqb (getD xs 2 0) x)
+lone xs x n d =
+    let h = apart xs n d in
     record {
       ef = λ p q. h .ab (eqb-true _ _ p ∙ sym (eqb-true _ _ q));
       eg = λ p q. h .ac (eqb-true _ _ p ∙ sym (eqb-true _ _ q));
@@ -104,28 +125,29 @@ row false false true q h = refl
 row false false false q h = refl
 
 -- the matches go by the places of the trial vertices
-pub matches-at : (vs : List ℕ) (i j : ℕ) → distinct vs i ≡ true
-    → matches vs i j ≡ matchesAt (place vs i (entity vs j 0)) (place vs i (entity vs j 1)) (place vs i (entity vs j 2))
+pub matches-at : (xs ys : List ℕ) → length xs ≡ 3 → length ys ≡ 3 → distinct xs ≡ true
+    → matches xs ys ≡ matchesAt (place xs (getD ys 0 0)) (place xs (getD ys 1 0)) (place xs (getD ys 2 0))
 unfolding matches matchesAt flatMap range
-matches-at vs i j d =
-    ap₂ _++_ (row _ _ _ 0 (lone vs i (entity vs j 0) d)) (ap₂ _++_ (row _ _ _ 1 (lone vs i (entity vs j 1) d)) (append-nil _ ∙ row _ _ _ 2 (lone vs i (entity vs j 2) d)))
+matches-at xs ys n k d =
+    rw (n, k)
+    (ap₂ _++_ (row _ _ _ 0 (lone xs (getD ys 0 0) n d)) (ap₂ _++_ (row _ _ _ 1 (lone xs (getD ys 1 0) n d)) (append-nil _ ∙ row _ _ _ 2 (lone xs (getD ys 2 0) n d))))
 
 -- what stands at the place of x
-place-holds : (vs : List ℕ) (i x : ℕ) → place vs i x < 3 → entity vs i (place vs i x) ≡ x
+place-holds : (xs : List ℕ) (x : ℕ) → place xs x < 3 → getD xs (place xs x) 0 ≡ x
 unfolding firstOf
-place-holds vs i x = go (eqb (entity vs i 0) x) (eqb (entity vs i 1) x) (eqb (entity vs i 2) x) refl refl refl
+place-holds xs x = go (eqb (getD xs 0 0) x) (eqb (getD xs 1 0) x) (eqb (getD xs 2 0) x) refl refl refl
   where
-    go : (e f g : Bool) → eqb (entity vs i 0) x ≡ e → eqb (entity vs i 1) x ≡ f → eqb (entity vs i 2) x ≡ g → firstOf e f g < 3 → entity vs i (firstOf e f g) ≡ x
+    go : (e f g : Bool) → eqb (getD xs 0 0) x ≡ e → eqb (getD xs 1 0) x ≡ f → eqb (getD xs 2 0) x ≡ g → firstOf e f g < 3 → getD xs (firstOf e f g) 0 ≡ x
     go true f g p q r h = eqb-true _ _ p
     go false true g p q r h = eqb-true _ _ q
     go false false true p q r h = eqb-true _ _ r
     go false false false p q r h = absurd (omega arith)
 
 -- two vertices at one place are the same
-place-same : (vs : List ℕ) (i x y : ℕ) → place vs i x < 3 → place vs i x ≡ place vs i y → x ≡ y
-place-same vs i x y h e =
-    let k : place vs i y < 3 = omega arith in
-    sym (place-holds vs i x h) ∙ ap (λ (p : ℕ). entity vs i p) e ∙ place-holds vs i y k
+place-same : (xs : List ℕ) (x y : ℕ) → place xs x < 3 → place xs x ≡ place xs y → x ≡ y
+place-same xs x y h e =
+    let k : place xs y < 3 = omega arith in
+    sym (place-holds xs x h) ∙ ap (λ (p : ℕ). getD xs p 0) e ∙ place-holds xs y k
 
 -- a place is at most 3
 place-most : (e f g : Bool) → firstOf e f g < 4
@@ -142,21 +164,25 @@ pub record Places (a b c : ℕ) : Type 0 where
   pub ac : a < 3 → a ≡ c → ⊥
   pub bc : b < 3 → b ≡ c → ⊥
 
-pub places-of : (vs : List ℕ) (i j : ℕ) → distinct vs j ≡ true
-    → Places (place vs i (entity vs j 0)) (place vs i (entity vs j 1)) (place vs i (entity vs j 2))
-places-of vs i j d =
-    let h = apart vs j d in
+pub places-of : (xs ys : List ℕ) → length ys ≡ 3 → distinct ys ≡ true → Places (place xs (getD ys 0 0)) (place xs (getD ys 1 0)) (place xs (getD ys 2 0))
+places-of xs ys n d =
+    let h = apart ys n d in
     record {
       most = (place-most _ _ _, place-most _ _ _, place-most _ _ _);
-      ab = λ l e. h .ab (place-same vs i (entity vs j 0) (entity vs j 1) l e);
-      ac = λ l e. h .ac (place-same vs i (entity vs j 0) (entity vs j 2) l e);
-      bc = λ l e. h .bc (place-same vs i (entity vs j 1) (entity vs j 2) l e);
+      ab = λ l e. h .ab (place-same xs (getD ys 0 0) (getD ys 1 0) l e);
+      ac = λ l e. h .ac (place-same xs (getD ys 0 0) (getD ys 2 0) l e);
+      bc = λ l e. h .bc (place-same xs (getD ys 1 0) (getD ys 2 0) l e);
     }
 
--- a vertex of cell i has a place there
-pub has-is-place : (vs : List ℕ) (i x : ℕ) → has vs i x ≡ ltb (place vs i x) 3
-unfolding has some _or_ firstOf
-has-is-place vs i x = go (eqb (entity vs i 0) x) (eqb (entity vs i 1) x) (eqb (entity vs i 2) x)
+-- the numbers of a triangle, one by one
+pub has-three : (xs : List ℕ) (x : ℕ) → length xs ≡ 3 → has xs x ≡ ((eqb (getD xs 0 0) x or eqb (getD xs 1 0) x) or eqb (getD xs 2 0) x)
+unfolding has some _or_
+has-three xs x n = rw n
+
+-- a vertex of a triangle has a place there
+pub has-is-place : (xs : List ℕ) (x : ℕ) → length xs ≡ 3 → has xs x ≡ ltb (place xs x) 3
+unfolding _or_ firstOf
+has-is-place xs x n = has-three xs x n ∙ go (eqb (getD xs 0 0) x) (eqb (getD xs 1 0) x) (eqb (getD xs 2 0) x)
   where
     go : (e f g : Bool) → e or f or g ≡ ltb (firstOf e f g) 3
     go true f g = refl

@@ -1,22 +1,21 @@
 -- The work order: distant pairs first, touching pairs follow; and how many there are of each. Assumes nothing.
 use Prim.Native.Nat.{ℕ, _+_, _-_, _/_}
-use mathlib.Core.Bool.{not}
+use mathlib.Core.Bool.{Bool, not}
 use mathlib.Core.List.{List, [], _∷_, _++_, flatMap}
 use lib.ListN.{length, getD}
 use lib.Dec.{eqb}
 use Rattle.lists.specs.Bool.{_and_}
 use Rattle.lists.specs.Range.{range, when, filter, batch}
 use Rattle.lists.specs.Total.{total, count}
-use Rattle.grid.specs.Shape.{share}
-use Rattle.grid.specs.Mesh.{Mesh}
+use Rattle.grid.specs.Mesh.{Mesh, kind, kindsPresent}
 use Rattle.function.specs.Colours.{colourCount}
 use Rattle.cell_pairs.specs.declared.WorkRecord.{WorkRecord}
 use Rattle.cell_pairs.specs.Records.{rec, patternCount, distantPattern}
-use Rattle.cell_pairs.specs.Patterns.{pattern, smallestShared}
+use Rattle.cell_pairs.specs.Patterns.{touch, pairPattern, pairVertex}
 
--- the cells of colour c, rising, of C cells
-unfoldable pub coloured : ℕ → List ℕ → ℕ → List ℕ
-coloured C cs c = filter (λ i. eqb (getD cs i 0) c) (range C)
+-- the cells of kind n and of colour c, rising; cs are the colours of the cells
+unfoldable pub coloured : Mesh → List ℕ → ℕ → ℕ → List ℕ
+coloured m cs n c = filter (λ i. eqb (kind m i) n and eqb (getD cs i 0) c) (range (m .cells))
 
 -- a batch has at most 65,535 cells
 abbrev pub mostBatch : ℕ
@@ -26,31 +25,33 @@ mostBatch = 65535
 abbrev pub batches : ℕ → List ℕ → List ℕ
 batches B cells = range ((length cells + (B - 1)) / B)
 
--- a distant pair; a pair sharing a vertex is skipped
-unfoldable pub distantPair : List ℕ → ℕ → ℕ → List WorkRecord
-distantPair vs i j = when (not (share vs i j)) (rec distantPattern i j ∷ [])
+-- a distant pair, where `near` tells the pairs that share a vertex: these are skipped
+unfoldable pub distantPair : (ℕ → ℕ → Bool) → ℕ → ℕ → List WorkRecord
+distantPair near i j = when (not (near i j)) (rec distantPattern i j ∷ [])
 
 -- a pair of batches: trial cell, test cell
-unfoldable pub distantBatch : List ℕ → List ℕ → List ℕ → List WorkRecord
-distantBatch vs tests trials = flatMap (λ j. flatMap (λ i. distantPair vs i j) tests) trials
+unfoldable pub distantBatch : (ℕ → ℕ → Bool) → List ℕ → List ℕ → List WorkRecord
+distantBatch near tests trials = flatMap (λ j. flatMap (λ i. distantPair near i j) tests) trials
 
 -- a pair of colours: test batch, trial batch
-unfoldable pub distantColours : List ℕ → ℕ → List ℕ → List ℕ → List WorkRecord
-distantColours vs B tests trials =
-    flatMap (λ b. flatMap (λ d. distantBatch vs (batch B b tests) (batch B d trials)) (batches B trials)) (batches B tests)
+unfoldable pub distantColours : (ℕ → ℕ → Bool) → ℕ → List ℕ → List ℕ → List WorkRecord
+distantColours near B tests trials =
+    flatMap (λ b. flatMap (λ d. distantBatch near (batch B b tests) (batch B d trials)) (batches B trials)) (batches B tests)
 
--- distant pairs, the outermost key first: test colour, trial colour, test batch, trial batch, trial cell, test cell. ts and rs are the colours of
--- the cells for the test and for the trial element
+-- test kind n and trial kind k: test colour, trial colour. Colour numbers are common to all kinds, and each kind has its own cut into batches
+unfoldable pub distantKinds : Mesh → ℕ → List ℕ → List ℕ → ℕ → ℕ → List WorkRecord
+distantKinds m B ts rs n k =
+    flatMap (λ c. flatMap (λ d. distantColours (touch m) B (coloured m ts n c) (coloured m rs k d)) (range (colourCount rs))) (range (colourCount ts))
+
+-- distant pairs, the outermost key first: test kind, trial kind, triangles first; test colour, trial colour, test batch, trial batch, trial cell, test
+-- cell. ts and rs are the colours of the cells for the test and for the trial element
 unfoldable pub distantPart : Mesh → ℕ → List ℕ → List ℕ → List WorkRecord
-distantPart m B ts rs =
-    flatMap
-    (λ c. flatMap (λ d. distantColours (m .cellVertices) B (coloured (m .cells) ts c) (coloured (m .cells) rs d)) (range (colourCount rs)))
-    (range (colourCount ts))
+distantPart m B ts rs = flatMap (λ n. flatMap (λ k. distantKinds m B ts rs n k) (kindsPresent (m .kinds))) (kindsPresent (m .kinds))
 
 -- a touching pair, at its pattern p and at its smallest shared vertex v
 unfoldable pub touchingPair : Mesh → ℕ → ℕ → ℕ → ℕ → List WorkRecord
 touchingPair m p v i j =
-    when (eqb (smallestShared (m .cellVertices) (m .vertices) i j) v and eqb (pattern (m .cellVertices) i j) p) (rec p i j ∷ [])
+    when (eqb (pairVertex m i j) v and eqb (pairPattern m i j) p) (rec p i j ∷ [])
 
 -- touching pairs: pattern (0 to 27), vertex, test cell, trial cell, all rising
 unfoldable pub touchingPart : Mesh → List WorkRecord
@@ -65,8 +66,8 @@ workList m B ts rs = distantPart m B ts rs ++ touchingPart m
 
 -- S: the ordered pairs of cells that share a vertex, a cell with itself included
 unfoldable pub sharingPairs : Mesh → ℕ
-sharingPairs m = total (λ i. count (λ j. share (m .cellVertices) i j) (range (m .cells))) (range (m .cells))
+sharingPairs m = total (λ i. count (λ j. touch m i j) (range (m .cells))) (range (m .cells))
 
 -- N: those that share none
 unfoldable pub distantPairs : Mesh → ℕ
-distantPairs m = total (λ i. count (λ j. not (share (m .cellVertices) i j)) (range (m .cells))) (range (m .cells))
+distantPairs m = total (λ i. count (λ j. not (touch m i j)) (range (m .cells))) (range (m .cells))

@@ -4,11 +4,10 @@ use mathlib.Core.Path.{_≡_}
 use mathlib.Core.Bool.{Bool, true, false}
 use lib.Dec.{eqb}
 use Rattle.lists.specs.Bool.{_and_}
-use Rattle.grid.specs.Shape.{share}
 use Rattle.grid.specs.Mesh.{Mesh}
 use Rattle.cell_pairs.specs.declared.WorkRecord.{WorkRecord}
 use Rattle.cell_pairs.specs.Records.{patternCount, distantPattern}
-use Rattle.cell_pairs.specs.Patterns.{pattern}
+use Rattle.cell_pairs.specs.Patterns.{touch, pairPattern}
 use Rattle.cell_pairs.specs.WorkList.{distantPairs}
 
 -- it is of test cell i and trial cell j
@@ -19,15 +18,15 @@ ofPair i j r = eqb (r .test) i and eqb (r .trial) j
 pub record Distant (m : Mesh) (r : WorkRecord) : Type 0 where
   pub testCell : r .test < m .cells
   pub trialCell : r .trial < m .cells
-  pub apart : share (m .cellVertices) (r .test) (r .trial) ≡ false
+  pub apart : touch m (r .test) (r .trial) ≡ false
   pub marked : r .pattern ≡ distantPattern
 
 -- touching: two cells of the mesh that share a vertex, and their pattern, 0 to 27
 pub record Touching (m : Mesh) (r : WorkRecord) : Type 0 where
   pub testCell : r .test < m .cells
   pub trialCell : r .trial < m .cells
-  pub meet : share (m .cellVertices) (r .test) (r .trial) ≡ true
-  pub marked : r .pattern ≡ pattern (m .cellVertices) (r .test) (r .trial)
+  pub meet : touch m (r .test) (r .trial) ≡ true
+  pub marked : r .pattern ≡ pairPattern m (r .test) (r .trial)
   pub known : r .pattern < patternCount
 
 -- record k of the work list: the first N are distant, those that follow touching

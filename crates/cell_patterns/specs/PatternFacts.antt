@@ -3,44 +3,49 @@ use Prim.Native.Nat.{ℕ, _+_, _*_, _<_, _≤_}
 use native.Mathlib.Nat.{add-zero}
 use native.Mathlib.Omega.{arith}
 use mathlib.Core.Path.{_≡_, refl, sym, ap, subst, _∙_}
-use mathlib.Core.Bool.{Bool, true, false, cond, not, _&&_}
+use mathlib.Core.Bool.{Bool, true, false, cond, not}
 use mathlib.Core.Logic.{_⊎_, inl, inr, ⊎-elim}
 use mathlib.Core.List.{List, [], _∷_}
-use lib.ListN.{getD}
+use lib.ListN.{length, getD}
 use lib.Dec.{eqb, ltb}
 use borrow.Author.Tests.{eqb-true, ltb-true, ltb-false, lt-ltb}
-use Rattle.lists.specs.Bool.{_and_, _or_, true≢false, cases, every, every-at, every-fails, every-of, _also_, end, and-both, and-no-left, and-no-right, or-cases, or-left, or-right, turned, passed}
-use Rattle.lists.specs.Bounded.{some, least-is, some-at}
+use Rattle.lists.specs.Bool.{_and_, _or_, true≢false, cases, every, every-at, every-fails, every-of, _also_, end, and-both, and-no-left, and-no-right, or-cases, or-left, or-right, same-test, turned, passed}
+use Rattle.lists.specs.Bounded.{all, some, least-is, all-at, all-of, all-ext}
 use Rattle.lists.specs.Total.{gate}
-use Rattle.grid.specs.Facts.{has-at, share-turned}
-use Rattle.grid.specs.Shape.{entity, has, share}
-use Rattle.grid.specs.Mesh.{distinct}
+use Rattle.grid.specs.Cells.{has as has-number, share as share-number}
+use Rattle.grid.specs.CellsFacts.{share-which, share-at, share-turned}
+use Rattle.grid.specs.Shape.{entity, triple, has, share}
+use Rattle.grid.specs.Mesh.{Mesh, triangles}
+use Rattle.grid.specs.Facts.{has-at, has-place, corners-triple}
+use Rattle.cells_by_key.specs.Groups.{cellsWith, part, Grouped, Below}
+use Rattle.cells_by_key.specs.GroupsFacts.{grouped-each, group-place, group-cells}
 use Rattle.cell_pairs.specs.Records.{patternCount}
-use Rattle.cell_pairs.specs.Patterns.{patternOf, pattern, smallestShared}
-use Rattle.cell_pairs.specs.MatchesFacts.{Lone, lone, firstOf, place, Places, places-of, matchesAt, at-by, matches-at, has-is-place}
+use Rattle.cell_pairs.specs.Patterns.{patternOf, pattern, smallestShared, patternsRight}
+use Rattle.cell_pairs.specs.MatchesFacts.{Lone, lone, firstOf, Places, places-of, matchesAt, at-by, matches-at, has-is-place}
 use Rattle.cell_pairs.specs.CasesFacts.{can-be-case, few-can-be}
+use Rattle.cell_patterns.specs.Flat.{distinctIn, placeIn, patternIn, smallestIn, pairRight, patternsIn}
 
 -- ---- places
 
-pub pattern-at : (vs : List ℕ) (i j : ℕ) → distinct vs i ≡ true
-    → pattern vs i j ≡ patternOf (matchesAt (place vs i (entity vs j 0)) (place vs i (entity vs j 1)) (place vs i (entity vs j 2)))
+pub pattern-at : (vs : List ℕ) (i j : ℕ) → distinctIn vs i ≡ true
+    → patternIn vs i j ≡ patternOf (matchesAt (placeIn vs i (entity vs j 0)) (placeIn vs i (entity vs j 1)) (placeIn vs i (entity vs j 2)))
 unfolding pattern
-pattern-at vs i j d = ap patternOf (matches-at vs i j d)
+pattern-at vs i j d = ap patternOf (matches-at (triple vs i) (triple vs j) refl refl d)
 
 -- the first number of a cell, as code reads it
 first-of : (vs : List ℕ) (j : ℕ) → getD vs (3 * j) 0 ≡ entity vs j 0
 first-of vs j = ap (λ (k : ℕ). getD vs k 0) (sym (add-zero (3 * j)))
 
-module _ (vs : List ℕ) (i j : ℕ) {a b c : ℕ} (e : a ≡ place vs i (getD vs (3 * j) 0)) (f : b ≡ place vs i (entity vs j 1)) (g : c ≡ place vs i (entity vs j 2)) where
-  first-place-of : a ≡ place vs i (entity vs j 0)
-  first-place-of = e ∙ ap (λ (x : ℕ). place vs i x) (first-of vs j)
+module _ (vs : List ℕ) (i j : ℕ) {a b c : ℕ} (e : a ≡ placeIn vs i (getD vs (3 * j) 0)) (f : b ≡ placeIn vs i (entity vs j 1)) (g : c ≡ placeIn vs i (entity vs j 2)) where
+  first-place-of : a ≡ placeIn vs i (entity vs j 0)
+  first-place-of = e ∙ ap (λ (x : ℕ). placeIn vs i x) (first-of vs j)
 
   -- three places that are found for the vertices of cell j
-  pub found-places : distinct vs j ≡ true → Places a b c
-  found-places d = rw (first-place-of, f, g) (places-of vs i j d)
+  pub found-places : distinctIn vs j ≡ true → Places a b c
+  found-places d = rw (first-place-of, f, g) (places-of (triple vs i) (triple vs j) refl d)
 
   -- the pattern of these
-  pub found-pattern : distinct vs i ≡ true → {r : ℕ} → r ≡ patternOf (matchesAt a b c) → r ≡ pattern vs i j
+  pub found-pattern : distinctIn vs i ≡ true → {r : ℕ} → r ≡ patternOf (matchesAt a b c) → r ≡ patternIn vs i j
   found-pattern d h = h ∙ rw (first-place-of, f, g) (sym (pattern-at vs i j d))
 
 -- the pattern of three shared vertices
@@ -54,18 +59,17 @@ at-abc {a} {b} {c} h k l = ap patternOf (at-by a b c (lt-ltb _ _ h) (lt-ltb _ _ 
 -- ---- which vertices are shared
 
 pub has-cases : (vs : List ℕ) (i x : ℕ) → has vs i x ≡ true → (entity vs i 0 ≡ x) ⊎ ((entity vs i 1 ≡ x) ⊎ (entity vs i 2 ≡ x))
-unfolding has some _or_
+unfolding has-number some _or_
 has-cases vs i x h =
     ⊎-elim (λ k. ⊎-elim (λ e. inl (eqb-true _ _ e)) (λ e. inr (inl (eqb-true _ _ e))) (or-cases _ _ k)) (λ e. inr (inr (eqb-true _ _ e))) (or-cases _ _ h)
 
 -- cells that share a vertex: one of cell j is in cell i
 share-any : (vs : List ℕ) (i j : ℕ) → share vs i j ≡ true → has vs i (entity vs j 0) or has vs i (entity vs j 1) or has vs i (entity vs j 2) ≡ true
-unfolding share some _or_
-share-any vs i j h = share-turned vs i j h
+unfolding share-number some _or_
+share-any vs i j h = share-turned (triple vs i) (triple vs j) h
 
 share-first : (vs : List ℕ) (i j : ℕ) → has vs i (entity vs j 0) ≡ true → share vs i j ≡ true
-unfolding share
-share-first vs i j h = share-turned vs j i (some-at 3 (λ q. has vs i (entity vs j q)) 0 (omega arith) h)
+share-first vs i j h = share-at (triple vs i) (triple vs j) (entity vs j 0) h (has-at vs j 0 (entity vs j 0) (omega arith) refl)
 
 -- ---- check 7
 
@@ -80,10 +84,6 @@ one-or-two true false false s t = inl refl
 one-or-two false true false s t = inl refl
 one-or-two false false true s t = inl refl
 one-or-two false false false s t = absurd (true≢false (sym s))
-
--- the test of one pair
-abbrev pub pairRight : List ℕ → ℕ → ℕ → Bool
-pairRight vs i j = not (share vs i j) or ltb (pattern vs i j) patternCount
 
 -- all three vertices of cell j are vertices of cell i
 abbrev pub sharesAll : List ℕ → ℕ → ℕ → Bool
@@ -121,28 +121,28 @@ three-right : (b : Bool) → ltb (cond b 27 patternCount) patternCount ≡ b
 three-right true = refl
 three-right false = refl
 
-module _ (vs : List ℕ) (i j : ℕ) (d : distinct vs i ≡ true) (k : distinct vs j ≡ true) where
+module _ (vs : List ℕ) (i j : ℕ) (d : distinctIn vs i ≡ true) (k : distinctIn vs j ≡ true) where
   -- a pair that shares one or two vertices has a pattern: one of the 27 cases
-  share-few : share vs i j ≡ true → sharesAll vs i j ≡ false → pattern vs i j < patternCount
+  share-few : share vs i j ≡ true → sharesAll vs i j ≡ false → patternIn vs i j < patternCount
   share-few s t =
       let few =
-      few-can-be _ _ _ (places-of vs i j k)
-      (rw (has-is-place vs i (entity vs j 0), has-is-place vs i (entity vs j 1), has-is-place vs i (entity vs j 2)) at (one-or-two _ _ _ (share-any vs i j s) t)) in
+      few-can-be _ _ _ (places-of (triple vs i) (triple vs j) refl k)
+      (rw (has-is-place (triple vs i) (entity vs j 0) refl, has-is-place (triple vs i) (entity vs j 1) refl, has-is-place (triple vs i) (entity vs j 2) refl) at (one-or-two _ _ _ (share-any vs i j s) t)) in
       rw (pattern-at vs i j d) (omega (arith, can-be-case _ few .0))
 
   -- a pair that does not share three vertices passes
   pub few-right : sharesAll vs i j ≡ false → pairRight vs i j ≡ true
   few-right t = ⊎-elim (λ s. or-right _ _ (lt-ltb _ _ (share-few s t))) (λ s. or-left _ _ (ap not s)) (cases (share vs i j))
 
-  shared : (q : ℕ) → has vs i (entity vs j q) ≡ true → place vs i (entity vs j q) < 3
-  shared q h = ltb-true _ _ (sym (has-is-place vs i (entity vs j q)) ∙ h)
+  shared : (q : ℕ) → has vs i (entity vs j q) ≡ true → placeIn vs i (entity vs j q) < 3
+  shared q h = ltb-true _ _ (sym (has-is-place (triple vs i) (entity vs j q) refl) ∙ h)
 
   -- the pattern of a pair that shares three
-  all-pattern : sharesAll vs i j ≡ true → pattern vs i j ≡ cond (sameList vs i j) 27 patternCount
+  all-pattern : sharesAll vs i j ≡ true → patternIn vs i j ≡ cond (sameList vs i j) 27 patternCount
   all-pattern t =
       pattern-at vs i j d
       ∙ at-abc (shared 0 (every-at _ t 0)) (shared 1 (every-at _ t 1)) (shared 2 (every-at _ t 2))
-      ∙ rw (first-place (eqb (entity vs i 0) (entity vs j 0)), second-place _ _ _ (lone vs i (entity vs j 1) d), third-place _ _ _ (lone vs i (entity vs j 2) d))
+      ∙ rw (first-place (eqb (entity vs i 0) (entity vs j 0)), second-place _ _ _ (lone (triple vs i) (entity vs j 1) refl d), third-place _ _ _ (lone (triple vs i) (entity vs j 2) refl d))
 
   -- it passes where the two lists are the same
   pub all-right : sharesAll vs i j ≡ true → pairRight vs i j ≡ sameList vs i j
@@ -151,18 +151,54 @@ module _ (vs : List ℕ) (i j : ℕ) (d : distinct vs i ≡ true) (k : distinct 
 
   -- the answers of a search that stops early
   pub first-missing : {b : Bool} → b ≡ has vs i (getD vs (3 * j) 0) → not b ≡ true → true ≡ pairRight vs i j
-  first-missing e h = sym (few-right (every-fails _ 0 (rw add-zero (turned e h))))
+  first-missing e h = sym (few-right (every-fails _ 0 (rw (← first-of vs j) (turned e h))))
 
-  pub rest-missing : (b c : Bool) → b ≡ has vs i (entity vs j 1) → c ≡ has vs i (entity vs j 2) → not (b && c) ≡ true → true ≡ pairRight vs i j
-  rest-missing true true e f h = absurd (true≢false (sym h))
-  rest-missing true false e f h = sym (few-right (every-fails _ 2 (sym f)))
-  rest-missing false c e f h = sym (few-right (every-fails _ 1 (sym e)))
-
-  pub none-missing : (a b c : Bool) → a ≡ has vs i (getD vs (3 * j) 0) → not a ≡ false → b ≡ has vs i (entity vs j 1) → c ≡ has vs i (entity vs j 2) → not (b && c) ≡ false
+  pub none-missing : {a b c : Bool} → a ≡ has vs i (getD vs (3 * j) 0) → not a ≡ false → b ≡ has vs i (entity vs j 1) → not b ≡ false → c ≡ has vs i (entity vs j 2) → not c ≡ false
       → pairRight vs i j ≡ sameList vs i j
-  none-missing a true true e g f f′ h = all-right (every-of (rw add-zero (passed e g) also sym f also sym f′ also end))
-  none-missing a true false e g f f′ h = absurd (true≢false h)
-  none-missing a false c e g f f′ h = absurd (true≢false h)
+  none-missing e h f k g l = all-right (every-of (rw (← first-of vs j) (passed e h) also passed f k also passed g l also end))
+
+-- ---- check 7, by vertex
+
+-- no vertex stands twice in a cell
+pub record Apart (vs : List ℕ) : Type 0 where
+  pub apart : (i : ℕ) → 3 * i + 3 ≤ length vs → distinctIn vs i ≡ true
+
+-- each cell of a list against each
+unfoldable pub groupRight : List ℕ → List ℕ → Bool
+groupRight vs cells = all (length cells) (λ k. all (length cells) (λ l. pairRight vs (getD cells k 0) (getD cells l 0)))
+
+-- all pairs pass exactly where those of the cells at each vertex do, as a pair that shares no vertex passes
+pub groups-all : (C top : ℕ) (vs : List ℕ) → length vs ≡ 3 * C → Below vs top → all top (λ v. groupRight vs (cellsWith vs 3 v)) ≡ patternsIn C vs
+unfolding groupRight patternsIn
+groups-all C top vs e below = same-test _ _ there back
+  where
+    there : all top (λ v. groupRight vs (cellsWith vs 3 v)) ≡ true → patternsIn C vs ≡ true
+    there h = all-of C _ (λ i li. all-of C _ (λ j lj. ⊎-elim (λ s. met i j li lj (share-which (triple vs i) (triple vs j) s)) (λ s. or-left _ _ (ap not s)) (cases (share vs i j))))
+      where
+        met : (i j : ℕ) → i < C → j < C → (x : ℕ) × (has vs i x ≡ true) × (has vs j x ≡ true) → pairRight vs i j ≡ true
+        met i j li lj w =
+            let p = has-place vs i (w .0) (w .1) in
+            let x : w .0 < top = rw (← p .2) (below .below (3 * i + p .0) (omega (arith, p .1))) in
+            let k = group-place vs (w .0) i (omega arith) (w .1) in
+            let l = group-place vs (w .0) j (omega arith) (w .2) in
+            rw (k .2, l .2) at (all-at _ _ (all-at _ _ (all-at top _ h (w .0) x) (k .0) (k .1)) (l .0) (l .1))
+
+    back : patternsIn C vs ≡ true → all top (λ v. groupRight vs (cellsWith vs 3 v)) ≡ true
+    back h =
+        all-of top _
+        (λ v _. all-of _ _
+        (λ k lk. all-of _ _ (λ l ll. all-at C _ (all-at C _ h _ (omega (arith, group-cells vs v C e .cell k lk))) _ (omega (arith, group-cells vs v C e .cell l ll)))))
+
+-- with the groups as they stand in the order
+pub parts-all : (C : ℕ) {n : ℕ} (vs : List ℕ) {order ends : List ℕ} → length vs ≡ 3 * C → Below vs n → Grouped order ends n (cellsWith vs 3)
+    → all (length ends) (λ v. groupRight vs (part order ends v)) ≡ patternsIn C vs
+parts-all C {n} vs e below g = rw (g .size) (all-ext n _ _ (λ v l. ap (groupRight vs) (grouped-each g v l)) ∙ groups-all C n vs e below)
+
+-- of a mesh of triangles this is check 7
+pub mesh-patterns : (m : Mesh) → m .kinds ≡ triangles (m .cells) → length (m .cellVertices) ≡ 3 * m .cells → patternsIn (m .cells) (m .cellVertices) ≡ patternsRight m
+unfolding patternsIn patternsRight
+mesh-patterns m e long =
+    all-ext (m .cells) _ _ (λ i hi. all-ext (m .cells) _ _ (λ j hj. rw (corners-triple m e long i hi, corners-triple m e long j hj)))
 
 -- ---- the smallest shared vertex
 
@@ -233,7 +269,7 @@ module _ (vs : List ℕ) (top i j : ℕ) where
       (lower-is (has vs j (entity vs i 1)) (entity vs i 1) one))
       (lower-is (has vs j (entity vs i 2)) (entity vs i 2) two)
 
-  pub smallest-is : smallestShared vs top i j ≡ lowest vs top i j
+  pub smallest-is : smallestIn vs top i j ≡ lowest vs top i j
   unfolding smallestShared
   smallest-is = least-is top (λ x. has vs i x and has vs j x) (lowest vs top i j) (omega (arith, lowest-le)) lowest-before lowest-here
 
@@ -241,6 +277,6 @@ module _ (vs : List ℕ) (top i j : ℕ) where
   pub smallest-by : {f g h : Bool} {x y z l m r : ℕ}
       → f ≡ has vs j (getD vs (3 * i) 0) → x ≡ getD vs (3 * i) 0 → l ≡ lower f x top
       → g ≡ has vs j (entity vs i 1) → y ≡ entity vs i 1 → m ≡ lower g y l
-      → h ≡ has vs j (entity vs i 2) → z ≡ entity vs i 2 → r ≡ lower h z m → r ≡ smallestShared vs top i j
+      → h ≡ has vs j (entity vs i 2) → z ≡ entity vs i 2 → r ≡ lower h z m → r ≡ smallestIn vs top i j
   unfolding lowest
-  smallest-by e0 e1 e2 e3 e4 e5 e6 e7 e8 = rw (smallest-is, add-zero, e8, e7, e6, e5, e4, e3, e2, e1, e0)
+  smallest-by e0 e1 e2 e3 e4 e5 e6 e7 e8 = rw (smallest-is, e8, e7, e6, e5, e4, e3, e2, e1, e0, first-of vs i)

@@ -8,7 +8,7 @@ use lib.Dec.{eqb, ltb}
 use borrow.Author.Tests.{eqb-true, ltb-true, ne-eqb}
 use Rattle.lists.specs.Bool.{_and_, _or_, or-cases, and-left, and-right}
 use Rattle.lists.specs.Bounded.{all, all-at, least}
-use Rattle.grid.specs.Shape.{sameTwo}
+use Rattle.grid.specs.Cells.{sameTwo}
 use Rattle.cell_pairs.specs.Patterns.{Match, edgeOf, patternOf}
 use Rattle.cell_pairs.specs.Cases.{Case, cases, testAt}
 use Rattle.cell_pairs.specs.MatchesFacts.{Places, matchesAt}

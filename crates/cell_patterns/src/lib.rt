@@ -1,21 +1,27 @@
 // Touching pairs (`get_pairs_if_smallest`): the pattern of two cells, their smallest shared vertex, and check 7.
 use cell_pairs::NO_PATTERN;
+use cells_by_key::by_key;
+use cells_by_key::part_of;
+use grid::MOST_CELLS;
+use grid::MOST_VERTICES;
 use grid::has_entity;
 use numbers::wide;
 ghost use mathlib.Core.Path.{_≡_};
 ghost use mathlib.Core.Bool.{true};
-ghost use Prim.Native.Nat.{ℕ, _+_, _*_, _≤_, _<_};
-ghost use lib.ListN.{length};
+ghost use Prim.Native.Nat.{ℕ, _+_, _*_, _/_, _^_, _≤_, _<_};
+ghost use lib.ListN.{length, getD};
 ghost use Rattle.lists.specs.Bounded.{all};
-ghost use Rattle.grid.specs.Mesh.{distinct};
-ghost use Rattle.cell_pairs.specs.Patterns.{patternOf, pattern, smallestShared, patternsRight};
-ghost use Rattle.cell_pairs.specs.MatchesFacts.{place, matchesAt, Places};
-ghost use Rattle.cell_patterns.specs.PatternFacts.{threePattern, pairRight, lower};
+ghost use Rattle.grid.specs.Mesh.{mostCells, mostVertices};
+ghost use Rattle.cells_by_key.specs.Groups.{Cells, Cut, Below, Zeros, part};
+ghost use Rattle.cell_pairs.specs.Patterns.{patternOf};
+ghost use Rattle.cell_pairs.specs.MatchesFacts.{matchesAt, Places};
+ghost use Rattle.cell_patterns.specs.Flat.{distinctIn, placeIn, patternIn, smallestIn, pairRight, patternsIn};
+ghost use Rattle.cell_patterns.specs.PatternFacts.{threePattern, Apart, groupRight, lower};
 
 // The place of the vertex x in a cell, 3 where it has none.
 fn place_of(vertices: &[u32], cell: usize, x: u32) -> u32
     requires { ⌜ 3 * cell + 3 ≤ length (now vertices) ⌝ }
-    ensures { λ r. ⌜ r ≡ place (now (vertices .entry)) cell x ⌝ }
+    ensures { λ r. ⌜ r ≡ placeIn (now (vertices .entry)) cell x ⌝ }
 {
     let at = 3 * cell;
     if vertices[at] == x {
@@ -82,8 +88,8 @@ fn pattern_at(a: u32, b: u32, c: u32) -> u32
 // The pattern of test cell i and trial cell j, NO_PATTERN where it is none of the list. No cell may have a vertex twice.
 pub fn pattern_of(vertices: &[u32], i: usize, j: usize) -> u32
     requires { ⌜ (3 * i + 3 ≤ length (now vertices)) × (3 * j + 3 ≤ length (now vertices)) ⌝ }
-    requires { ⌜ (distinct (now vertices) i ≡ true) × (distinct (now vertices) j ≡ true) ⌝ }
-    ensures { λ r. ⌜ r ≡ pattern (now (vertices .entry)) i j ⌝ }
+    requires { ⌜ (distinctIn (now vertices) i ≡ true) × (distinctIn (now vertices) j ≡ true) ⌝ }
+    ensures { λ r. ⌜ r ≡ patternIn (now (vertices .entry)) i j ⌝ }
 {
     let at = 3 * j;
     let a = place_of(vertices, i, vertices[at]);
@@ -102,7 +108,7 @@ fn lower_of(counts: bool, x: usize, m: usize) -> usize
 // The smallest vertex, below top, that cells i and j share; top where they share none.
 pub fn smallest_shared(vertices: &[u32], top: usize, i: usize, j: usize) -> usize
     requires { ⌜ (3 * i + 3 ≤ length (now vertices)) × (3 * j + 3 ≤ length (now vertices)) ⌝ }
-    ensures { λ r. ⌜ r ≡ smallestShared (now (vertices .entry)) top i j ⌝ }
+    ensures { λ r. ⌜ r ≡ smallestIn (now (vertices .entry)) top i j ⌝ }
 {
     let at = 3 * i;
     let x = vertices[at];
@@ -116,7 +122,7 @@ pub fn smallest_shared(vertices: &[u32], top: usize, i: usize, j: usize) -> usiz
 // Whether cells i and j share no vertex or have a pattern: the lists of two cells that share three vertices must be the same.
 fn pair_right(vertices: &[u32], i: usize, j: usize) -> bool
     requires { ⌜ (3 * i + 3 ≤ length (now vertices)) × (3 * j + 3 ≤ length (now vertices)) ⌝ }
-    requires { ⌜ (distinct (now vertices) i ≡ true) × (distinct (now vertices) j ≡ true) ⌝ }
+    requires { ⌜ (distinctIn (now vertices) i ≡ true) × (distinctIn (now vertices) j ≡ true) ⌝ }
     ensures { λ r. ⌜ r ≡ pairRight (now (vertices .entry)) i j ⌝ }
 {
     let at = 3 * j;
@@ -125,38 +131,81 @@ fn pair_right(vertices: &[u32], i: usize, j: usize) -> bool
         return true;
     }
     let y = vertices[at + 1];
+    if !has_entity(vertices, i, y) {
+        return true;
+    }
     let z = vertices[at + 2];
-    if !(has_entity(vertices, i, y) & has_entity(vertices, i, z)) {
+    if !has_entity(vertices, i, z) {
         return true;
     }
     let own = 3 * i;
     (vertices[own] == x) & (vertices[own + 1] == y) & (vertices[own + 2] == z)
 }
 
-// Check 7 of test cell i against all trial cells.
-fn row_right(cells: usize, vertices: &[u32], i: usize) -> bool
-    requires { ⌜ (length (now vertices) ≡ 3 * cells) × (i < cells) ⌝ }
-    requires { ⌜ ((k : ℕ) → k < cells → distinct (now vertices) k ≡ true) ⌝ }
-    ensures { λ r. ⌜ r ≡ all cells (λ j. pairRight (now (vertices .entry)) i j) ⌝ }
+// Check 7 of test cell i against the cells of a list.
+fn row_right(vertices: &[u32], cells: &[u32], i: usize) -> bool
+    requires { ⌜ Cells (now vertices) (now cells) ⌝ }
+    requires { ⌜ Apart (now vertices) ⌝ }
+    requires { ⌜ 3 * i + 3 ≤ length (now vertices) ⌝ }
+    ensures { λ r. ⌜ r ≡ all (length (now (cells .entry))) (λ k. pairRight (now (vertices .entry)) i (getD (now (cells .entry)) k 0)) ⌝ }
 {
-    for j in 0..cells {
-        if !pair_right(vertices, i, j) {
+    for k in 0..cells.len() {
+        if !pair_right(vertices, i, wide(cells[k])) {
             return false;
         }
     }
     true
 }
 
-// Check 7: each ordered pair of cells that shares a vertex has a pattern of the list.
-pub fn patterns_right(cells: usize, vertices: &[u32]) -> bool
-    requires { ⌜ length (now vertices) ≡ 3 * cells ⌝ }
-    requires { ⌜ ((k : ℕ) → k < cells → distinct (now vertices) k ≡ true) ⌝ }
-    ensures { λ r. ⌜ r ≡ patternsRight cells (now (vertices .entry)) ⌝ }
+// Check 7 of the cells of a list against each other.
+fn group_right(vertices: &[u32], cells: &[u32]) -> bool
+    requires { ⌜ Cells (now vertices) (now cells) ⌝ }
+    requires { ⌜ Apart (now vertices) ⌝ }
+    ensures { λ r. ⌜ r ≡ groupRight (now (vertices .entry)) (now (cells .entry)) ⌝ }
 {
-    for i in 0..cells {
-        if !row_right(cells, vertices, i) {
+    for k in 0..cells.len() {
+        if !row_right(vertices, cells, wide(cells[k])) {
             return false;
         }
     }
     true
+}
+
+// Check 7 of the cells at each vertex. `order` holds the cells at vertex 0, then those at vertex 1 and so on, and `ends` where each vertex's end.
+fn groups_right(vertices: &[u32], order: &[u32], ends: &[usize]) -> bool
+    requires { ⌜ Cut (now vertices) (now order) (now ends) ⌝ }
+    requires { ⌜ Apart (now vertices) ⌝ }
+    ensures { λ r. ⌜ r ≡ all (length (now (ends .entry))) (λ v. groupRight (now (vertices .entry)) (part (now (order .entry)) (now (ends .entry)) v)) ⌝ }
+{
+    for v in 0..ends.len() {
+        if !group_right(vertices, part_of(order, ends, v)) {
+            return false;
+        }
+    }
+    true
+}
+
+// Check 7, by way of two lists: the cells by vertex and where each vertex's end.
+fn sorted_right(vertices: &[u32], order: &mut [u32], ends: &mut [usize]) -> bool
+    requires { ⌜ Below (now vertices) (length (now ends)) ⌝ }
+    requires { ⌜ Zeros (now ends) ⌝ }
+    requires { ⌜ (length (now vertices) ≡ 3 * (length (now vertices) / 3)) × (length (now vertices) < 2 ^ 32) × (length (now order) ≡ length (now vertices)) ⌝ }
+    requires { ⌜ Apart (now vertices) ⌝ }
+    ensures { λ r. ⌜ r ≡ patternsIn (length (now (vertices .entry)) / 3) (now (vertices .entry)) ⌝ }
+{
+    by_key(vertices, 3, ends, order);
+    groups_right(vertices, order, ends)
+}
+
+// Check 7: each ordered pair of cells that shares a vertex has a pattern of the list. The vertices of the cells are below top.
+pub fn patterns_right(cells: usize, top: usize, vertices: &[u32]) -> bool
+    requires { ⌜ (length (now vertices) ≡ 3 * cells) × (cells ≤ mostCells) × (top ≤ mostVertices) ⌝ }
+    requires { ⌜ Below (now vertices) top ⌝ }
+    requires { ⌜ ((k : ℕ) → k < cells → distinctIn (now vertices) k ≡ true) ⌝ }
+    ensures { λ r. ⌜ r ≡ patternsIn cells (now (vertices .entry)) ⌝ }
+{
+    let n = 3 * cells;
+    let mut order = [0u32; 3 * MOST_CELLS];
+    let mut ends = [0usize; MOST_VERTICES];
+    sorted_right(vertices, &mut order[..n], &mut ends[..top])
 }

@@ -1,5 +1,4 @@
--- Cells grouped by a key (`Groups`). Laws: the sort groups them (`Sorting`), and by colour and by vertex they are the groups of the work list
--- (`GroupsFacts`).
+-- Cells grouped by a key (`Groups`). Laws: the sort groups them (`Sorting`), and each group is of the cells that have its key (`GroupsFacts`).
 pub mod Groups
 pub mod Sorting
 pub mod GroupsFacts

@@ -9,7 +9,7 @@ use lib.Dec.{eqb}
 use Rattle.lists.specs.Bool.{_or_}
 use Rattle.lists.specs.Bounded.{some}
 use Rattle.lists.specs.Range.{range, batch}
-use Rattle.grid.specs.Shape.{entity}
+use Rattle.grid.specs.Shape.{entity, share}
 use Rattle.cell_pairs.specs.declared.WorkRecord.{WorkRecord}
 use Rattle.cell_pairs.specs.WorkList.{batches, distantPair, distantBatch, distantColours}
 use Rattle.cells_by_key.specs.Groups.{part}
@@ -26,15 +26,15 @@ hasOneOf vs i a b c = some 3 (λ p. eqb a (entity vs i p) or eqb b (entity vs i 
 
 -- one trial cell against a batch of test cells
 unfoldable pub distantRow : List ℕ → List ℕ → ℕ → List WorkRecord
-distantRow vs tests j = flatMap (λ i. distantPair vs i j) tests
+distantRow vs tests j = flatMap (λ i. distantPair (share vs) i j) tests
 
 -- each batch of a trial colour against a batch of test cells
 unfoldable pub distantTrials : List ℕ → ℕ → List ℕ → List ℕ → List WorkRecord
-distantTrials vs B tests trials = flatMap (λ d. distantBatch vs tests (batch B d trials)) (batches B trials)
+distantTrials vs B tests trials = flatMap (λ d. distantBatch (share vs) tests (batch B d trials)) (batches B trials)
 
 -- a test colour against each trial colour
 unfoldable pub distantRest : List ℕ → ℕ → List ℕ → List ℕ → List ℕ → List WorkRecord
-distantRest vs B tests order ends = flatMap (λ d. distantColours vs B tests (part order ends d)) (range (length ends))
+distantRest vs B tests order ends = flatMap (λ d. distantColours (share vs) B tests (part order ends d)) (range (length ends))
 
 -- all: each test colour
 unfoldable pub distantParts : List ℕ → ℕ → List ℕ → List ℕ → List ℕ → List ℕ → List WorkRecord

@@ -11,6 +11,7 @@ ghost use Prim.Native.Nat.{_+_, _*_, _≤_, _<_};
 ghost use lib.ListN.{length};
 ghost use Rattle.lists.specs.Range.{batch};
 ghost use Rattle.lists.specs.Writes.{Wrote, Room};
+ghost use Rattle.grid.specs.Shape.{share};
 ghost use Rattle.cell_pairs.specs.RecordsFacts.{records};
 ghost use Rattle.cell_pairs.specs.WorkList.{mostBatch, distantPair, distantBatch, distantColours};
 ghost use Rattle.cells_by_key.specs.Groups.{Cells, Cut};
@@ -43,8 +44,8 @@ fn write_pair(
 ) -> usize
     requires { ⌜ 3 * test + 3 ≤ length (now vertices) ⌝ }
     requires { ⌜ Corners (now vertices) trial a b c ⌝ }
-    requires { ⌜ Room records (now work) at (distantPair (now vertices) test trial) ⌝ }
-    ensures { λ r. ⌜ Wrote records (now (work .entry)) (now (work .exit)) at r (distantPair (now (vertices .entry)) test trial) ⌝ }
+    requires { ⌜ Room records (now work) at (distantPair (share (now vertices)) test trial) ⌝ }
+    ensures { λ r. ⌜ Wrote records (now (work .entry)) (now (work .exit)) at r (distantPair (share (now (vertices .entry))) test trial) ⌝ }
 {
     if has_one_of(vertices, wide(test), a, b, c) {
         at
@@ -90,9 +91,9 @@ fn write_batch(
 ) -> usize
     requires { ⌜ Cells (now vertices) (now tests) ⌝ }
     requires { ⌜ Cells (now vertices) (now trials) ⌝ }
-    requires { ⌜ Room records (now work) at (distantBatch (now vertices) (now tests) (now trials)) ⌝ }
+    requires { ⌜ Room records (now work) at (distantBatch (share (now vertices)) (now tests) (now trials)) ⌝ }
     ensures { λ r. ⌜ Wrote records (now (work .entry)) (now (work .exit)) at r
-        (distantBatch (now (vertices .entry)) (now (tests .entry)) (now (trials .entry))) ⌝ }
+        (distantBatch (share (now (vertices .entry))) (now (tests .entry)) (now (trials .entry))) ⌝ }
 {
     let mut next = at;
     for k in 0..trials.len() {
@@ -151,9 +152,9 @@ fn write_colours(
     requires { ⌜ (0 < batch) × (batch ≤ mostBatch) ⌝ }
     requires { ⌜ Cells (now vertices) (now tests) ⌝ }
     requires { ⌜ Cells (now vertices) (now trials) ⌝ }
-    requires { ⌜ Room records (now work) at (distantColours (now vertices) batch (now tests) (now trials)) ⌝ }
+    requires { ⌜ Room records (now work) at (distantColours (share (now vertices)) batch (now tests) (now trials)) ⌝ }
     ensures { λ r. ⌜ Wrote records (now (work .entry)) (now (work .exit)) at r
-        (distantColours (now (vertices .entry)) batch (now (tests .entry)) (now (trials .entry))) ⌝ }
+        (distantColours (share (now (vertices .entry))) batch (now (tests .entry)) (now (trials .entry))) ⌝ }
 {
     let mut next = at;
     let mut b = 0;

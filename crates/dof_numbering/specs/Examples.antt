@@ -2,12 +2,15 @@
 use mathlib.Core.Path.{refl}
 use mathlib.Core.List.{[], _∷_}
 use Rattle.lists.specs.Examples.{Example, example, Holds}
-use Rattle.function.specs.Examples.{element, onM, opened-function}
-use Rattle.dof_numbering.specs.Numbering.{dimensionOf, entityOf, dofsOn, sameEntity, firstVisit, isFirst, free, start, upFrom, ownersOn, dofsTo, ownersTo, dofList, ownerList, dofCount}
+use Rattle.function.specs.Examples.{element, elements, onM, opened-function}
+use Rattle.grid.specs.Cells.{before, part}
+use Rattle.function.specs.declared.Elements.{Elements}
+use Rattle.function.specs.Elements.{Space}
+use Rattle.dof_numbering.specs.Numbering.{visitsOf, visits, sameEntity, firstVisit, isFirst, free, start, upFrom, ownersOn, dofsTo, ownersTo, dofList, ownerList, dofCount}
 
 -- opens the definitions of this crate and of those below it
 unfoldable pub opened-dofs : Unit {0}
-unfolding opened-function dimensionOf entityOf dofsOn sameEntity firstVisit isFirst free start upFrom ownersOn dofsTo ownersTo
+unfolding opened-function before part visitsOf visits sameEntity firstVisit isFirst free start upFrom ownersOn dofsTo ownersTo
 opened-dofs = tt
 
 -- M1: a = 1: DOFs (0,1,2), (1,3,2), (4,5,6)
@@ -60,3 +63,46 @@ two-owners =
 pub two-owners-holds : Holds two-owners
 unfolding opened-dofs
 two-owners-holds = refl
+
+-- A triangle and a quad that share an edge, and a quad apart: vertices (0,1,2), (1,3,2,4), (5,6,7,8), edges (0,1,2), (3,0,4,5), (6,7,8,9)
+abbrev beside : Elements → Space
+beside es =
+    record {
+      kinds = 3 ∷ 4 ∷ 4 ∷ [];
+      cellVertices = 0 ∷ 1 ∷ 2 ∷ 1 ∷ 3 ∷ 2 ∷ 4 ∷ 5 ∷ 6 ∷ 7 ∷ 8 ∷ [];
+      cellEdges = 0 ∷ 1 ∷ 2 ∷ 3 ∷ 0 ∷ 4 ∷ 5 ∷ 6 ∷ 7 ∷ 8 ∷ 9 ∷ [];
+      elements = es;
+    }
+
+-- a = b = 1, of the first two: DOFs (0,1,2,3,4,5), (1,6,2,7,8,3,9,10)
+abbrev pub quad-beside : Example
+quad-beside = example (dofList (beside (elements 1 1 0 0)) 2) (0 ∷ 1 ∷ 2 ∷ 3 ∷ 4 ∷ 5 ∷ 1 ∷ 6 ∷ 2 ∷ 7 ∷ 8 ∷ 3 ∷ 9 ∷ 10 ∷ [])
+
+pub quad-beside-holds : Holds quad-beside
+unfolding opened-dofs
+quad-beside-holds = refl
+
+-- b = c = 1, of the first two: the owner records, of the triangle's edges and interior, then of the quad's three other edges and its interior
+abbrev pub quad-owners : Example
+quad-owners =
+    example (ownerList (beside (elements 0 1 1 1)) 2)
+    (1 ∷ 0 ∷ 0 ∷ 1 ∷ 1 ∷ 0 ∷ 1 ∷ 2 ∷ 0 ∷ 2 ∷ 0 ∷ 0 ∷ 1 ∷ 3 ∷ 0 ∷ 1 ∷ 4 ∷ 0 ∷ 1 ∷ 5 ∷ 0 ∷ 2 ∷ 1 ∷ 0 ∷ [])
+
+pub quad-owners-holds : Holds quad-owners
+unfolding opened-dofs
+quad-owners-holds = refl
+
+-- c alone, 1 in a triangle and 2 in a quad: DOFs (0), (1,2), (3,4), and their owner records
+abbrev pub quad-inside : Example
+quad-inside = example (dofList (beside (elements 0 0 1 2)) 3) (0 ∷ 1 ∷ 2 ∷ 3 ∷ 4 ∷ [])
+
+pub quad-inside-holds : Holds quad-inside
+unfolding opened-dofs
+quad-inside-holds = refl
+
+abbrev pub inside-owners : Example
+inside-owners = example (ownerList (beside (elements 0 0 1 2)) 3) (2 ∷ 0 ∷ 0 ∷ 2 ∷ 1 ∷ 0 ∷ 2 ∷ 1 ∷ 1 ∷ 2 ∷ 2 ∷ 0 ∷ 2 ∷ 2 ∷ 1 ∷ [])
+
+pub inside-owners-holds : Holds inside-owners
+unfolding opened-dofs
+inside-owners-holds = refl

@@ -1,48 +1,42 @@
--- What `assign_dofs` asks, what one visit of it does, and its walk over the visits: what its lists hold before visit k, and that a visit takes
--- them to visit k + 1. Assumes nothing.
-use Prim.Native.Nat.{ℕ, suc, _+_, _*_, _-_, _/_, _%_, _<_, _≤_}
-use native.Mathlib.Nat.{not-suc-le-zero, le-of-suc-le-suc, eq-or-lt-of-le, lt-irrefl, zero-add, mul-le-mul, le-trans}
+-- What `assign_dofs` asks; what a visit does to its lists, a walk over visits, and what room it needs; and its loops over entities and over a cell.
+-- Assumes nothing.
+use Prim.Native.Nat.{ℕ, suc, _+_, _*_, _-_, _<_, _≤_, zero-le}
+use native.Mathlib.Nat.{suc-mul}
 use native.Mathlib.Numerals.{add-one}
 use native.Mathlib.Omega.{arith}
-use mathlib.Core.Bool.{Bool, true, false, cond}
-use mathlib.Core.Path.{_≡_, refl, sym, ap, _∙_}
+use mathlib.Core.Bool.{cond}
+use mathlib.Core.Path.{_≡_, refl, sym, ap, ap₂, subst, _∙_}
 use mathlib.Core.Logic.{⊎-elim}
-use mathlib.Core.List.{List, [], _∷_, _++_, append-nil}
-use lib.ListN.{length, getD, set, drop, length-set, replicate, getD-replicate, length-replicate}
-use lib.Seq.{sets, getD-set-same, getD-set-other}
-use lib.Dec.{ltb, eqb}
-use borrow.Author.Tests.{ltb-true, eqb-false, eq-eqb, ne-eqb}
-use Rattle.lists.specs.Bool.{true≢false, cases}
-use Rattle.lists.specs.Stores.{sets-append, sets-more, sets-all, sets-front}
-use Rattle.grid.specs.Shape.{entity}
+use mathlib.Core.List.{List, [], _∷_, _++_}
+use lib.ListN.{length, getD, set, take}
+use lib.Seq.{sets, length-sets, take-suc, take-all, set-out, getD-set-same, getD-set-other}
+use lib.Dec.{eqb}
+use borrow.Author.Tests.{eq-eqb, ne-eqb}
+use Rattle.lists.specs.Bounded.{lt-or-le, eq-or-ne}
+use Rattle.lists.specs.Stores.{sets-append, sets-more}
 use Rattle.grid.specs.Mesh.{mostCells, mostVertices, mostEdges}
-use Rattle.function.specs.Elements.{mostDim, dim, Space}
+use Rattle.function.specs.Elements.{mostDim, cellDim, Space}
 use Rattle.function.specs.declared.Element.{Element}
-use Rattle.dof_numbering.specs.Numbering.{byPlace, dimensionOf, entityOf, dofsOn, sameEntity, firstVisit, isFirst, free, start, upFrom, ownersOn, dofsTo, ownersTo, dofList, ownerList, dofCount}
-use Rattle.dof_numbering.specs.Facts.{length-upFrom, length-ownersOn, same-dimension, same-number, same-of, first-le, first-meets, first-first, first-old, free-step, free-stays, start-first, start-below, length-next, length-mono, length-dofs, free-le-length, length-owners}
+use Rattle.function.specs.declared.Elements.{Elements}
+use Rattle.dof_numbering.specs.declared.Next.{Next}
+use Rattle.dof_numbering.specs.Numbering.{Visit, visit, visitEach, visitsOf, visitAt, free, upFrom, ownersOn, kind}
+use Rattle.dof_numbering.specs.Facts.{length-upFrom, length-ownersOn}
+use Rattle.dof_numbering.specs.ByCell.{Filled, met, length-each, getD-each}
 
 -- ---- what `assign_dofs` asks
 
-abbrev pub space : List ℕ → List ℕ → Element → Space
-space vertices edges element = record { cellVertices = vertices; cellEdges = edges; element = element }
+abbrev pub space : List ℕ → List ℕ → List ℕ → Elements → Space
+space kinds vertices edges elements = record { kinds = kinds; cellVertices = vertices; cellEdges = edges; elements = elements }
 
 -- lists of C cells, with numbers within the largest mesh, and few local DOFs
 pub record Sized (s : Space) (C : ℕ) : Type 0 where
   pub few : C ≤ mostCells
-  pub vertices-long : length (s .cellVertices) ≡ 3 * C
-  pub edges-long : length (s .cellEdges) ≡ 3 * C
-  pub small : dim (s .element) ≤ mostDim
-  pub vertices-below : (p : ℕ) → p < 3 * C → getD (s .cellVertices) p 0 < mostVertices
-  pub edges-below : (p : ℕ) → p < 3 * C → getD (s .cellEdges) p 0 < mostEdges
+  pub filled : Filled s C
+  pub small : (i : ℕ) → i < C → cellDim (s .elements) (kind s i) ≤ mostDim
+  pub vertices-below : (p : ℕ) → p < length (s .cellVertices) → getD (s .cellVertices) p 0 < mostVertices
+  pub edges-below : (p : ℕ) → p < length (s .cellEdges) → getD (s .cellEdges) p 0 < mostEdges
 
--- ---- what its parts answer
-
--- the number of the entity of visit k, and how many DOFs are on it
-abbrev pub entityAt : List ℕ → List ℕ → ℕ → ℕ
-entityAt vertices edges k = byPlace (k % 7) (entity vertices (k / 7) (k % 7)) (entity edges (k / 7) (k % 7 - 3)) (k / 7)
-
-abbrev pub dofsAt : Element → ℕ → ℕ
-dofsAt e k = byPlace (k % 7) (e .a) (e .b) (e .c)
+-- ---- what a visit does
 
 -- all vertices, edges and cells of the largest mesh
 abbrev pub mostEntities : ℕ
@@ -52,27 +46,70 @@ mostEntities = mostVertices + mostEdges + mostCells
 abbrev pub slot : ℕ → ℕ → ℕ
 slot d x = cond (eqb d 0) x (cond (eqb d 1) (mostVertices + x) (mostVertices + mostEdges + x))
 
--- What one visit does to the three lists, and the next free number after it: entity x of dimension d has m DOFs, and its first number is kept at
--- slot i of `met` (0: not met yet, else 1 more than the number)
-pub record Visited (i d x m at next : ℕ) (met dofs owners met′ dofs′ owners′ : List ℕ) (next′ : ℕ) : Type 0 where
-  pub met-is : met′ ≡ cond (eqb (getD met i 0) 0) (set met i (next + 1)) met
-  pub dofs-is : dofs′ ≡ sets dofs at (upFrom (cond (eqb (getD met i 0) 0) next (getD met i 0 - 1)) m)
-  pub owners-is : owners′ ≡ cond (eqb (getD met i 0) 0) (sets owners (3 * next) (ownersOn d x m)) owners
-  pub next-is : next′ ≡ cond (eqb (getD met i 0) 0) (next + m) next
+-- entities of dimension d that have a slot
+pub record Slots (d : ℕ) (xs : List ℕ) : Type 0 where
+  pub below : (p : ℕ) → p < length xs → slot d (getD xs p 0) < mostEntities
 
--- the two ways a visit goes
-module _ {i d x m at next : ℕ} {met dofs owners met′ dofs′ owners′ : List ℕ} {next′ : ℕ} where
-  pub visited-new : getD met i 0 ≡ 0 → met′ ≡ set met i (next + 1) → dofs′ ≡ sets dofs at (upFrom next m) → owners′ ≡ sets owners (3 * next) (ownersOn d x m)
-      → next′ ≡ next + m → Visited i d x m at next met dofs owners met′ dofs′ owners′ next′
-  visited-new z p q r n =
-      let e : eqb (getD met i 0) 0 ≡ true = eq-eqb (getD met i 0) 0 z in
-      record { met-is = rw e p; dofs-is = rw e q; owners-is = rw e r; next-is = rw e n }
+-- The lists in the middle of the walk, the next place in the DOF list and the next free number. The first number of an entity is kept at its slot of
+-- `met` (0: not met yet, else 1 more than the number)
+pub record State : Type 0 where
+  pub met : List ℕ
+  pub dofs : List ℕ
+  pub owners : List ℕ
+  pub at : ℕ
+  pub next : ℕ
 
-  pub visited-old : (getD met i 0 ≡ 0 → ⊥) → met′ ≡ met → dofs′ ≡ sets dofs at (upFrom (getD met i 0 - 1) m) → owners′ ≡ owners → next′ ≡ next
-      → Visited i d x m at next met dofs owners met′ dofs′ owners′ next′
-  visited-old z p q r n =
-      let e : eqb (getD met i 0) 0 ≡ false = ne-eqb (getD met i 0) 0 z in
-      record { met-is = rw e p; dofs-is = rw e q; owners-is = rw e r; next-is = rw e n }
+abbrev pub state : List ℕ → List ℕ → List ℕ → Next → State
+state met dofs owners n = record { met = met; dofs = dofs; owners = owners; at = n .at; next = n .free }
+
+-- what is kept of the entity of a visit
+abbrev pub seen : State → Visit → ℕ
+seen st v = getD (st .met) (slot (v .dimension) (v .entity)) 0
+
+-- an entity met first gets the next free numbers, and its owner records are written
+abbrev pub metFirst : State → Visit → State
+metFirst st v =
+    record {
+      met = set (st .met) (slot (v .dimension) (v .entity)) (st .next + 1);
+      dofs = sets (st .dofs) (st .at) (upFrom (st .next) (v .dofs));
+      owners = sets (st .owners) (3 * st .next) (ownersOn (v .dimension) (v .entity) (v .dofs));
+      at = st .at + v .dofs;
+      next = st .next + v .dofs;
+    }
+
+-- one met again has its numbers
+abbrev pub metAgain : State → Visit → State
+metAgain st v =
+    record {
+      met = st .met;
+      dofs = sets (st .dofs) (st .at) (upFrom (seen st v - 1) (v .dofs));
+      owners = st .owners;
+      at = st .at + v .dofs;
+      next = st .next;
+    }
+
+unfoldable pub step : State → Visit → State
+step st v = cond (eqb (seen st v) 0) (metFirst st v) (metAgain st v)
+
+pub step-first : (st : State) (v : Visit) → seen st v ≡ 0 → step st v ≡ metFirst st v
+unfolding step
+step-first st v e = rw (eq-eqb (seen st v) 0 e)
+
+pub step-again : (st : State) (v : Visit) → (seen st v ≡ 0 → ⊥) → step st v ≡ metAgain st v
+unfolding step
+step-again st v e = rw (ne-eqb (seen st v) 0 e)
+
+-- with the numbers that the program has at hand: the slot i of entity x, and w, its m DOFs as an index
+module _ (met dofs owners met′ dofs′ owners′ : List ℕ) (n n′ : Next) (d x m i w : ℕ) (slots : i ≡ slot d x) (wide : w ≡ m) where
+  pub visited-first : getD met i 0 ≡ 0 → met′ ≡ set met i (n .free + 1) → dofs′ ≡ sets dofs (n .at) (upFrom (n .free) m) → owners′ ≡ sets owners (3 * n .free) (ownersOn d x m)
+      → n′ .at ≡ n .at + w → n′ .free ≡ n .free + m → state met′ dofs′ owners′ n′ ≡ step (state met dofs owners n) (visit d x m)
+  visited-first z p q r a f =
+      rw (p, q, r, a, f, slots, wide) (sym (step-first (state met dofs owners n) (visit d x m) (ap (λ (j : ℕ). getD met j 0) (sym slots) ∙ z)))
+
+  pub visited-again : (getD met i 0 ≡ 0 → ⊥) → met′ ≡ met → dofs′ ≡ sets dofs (n .at) (upFrom (getD met i 0 - 1) m) → owners′ ≡ owners
+      → n′ .at ≡ n .at + w → n′ .free ≡ n .free → state met′ dofs′ owners′ n′ ≡ step (state met dofs owners n) (visit d x m)
+  visited-again z p q r a f =
+      rw (p, q, r, a, f, slots, wide) (sym (step-again (state met dofs owners n) (visit d x m) (λ e. z (ap (λ (j : ℕ). getD met j 0) slots ∙ e))))
 
 -- a turn of the loop that writes the numbers, and of the one that writes the owner records; w is the loop's count, as an index
 pub numbers-step : (l d : List ℕ) (at n i w : ℕ) → d ≡ sets l at (upFrom n i) → w ≡ i → set d (at + w) (n + i) ≡ sets l at (upFrom n (i + 1))
@@ -91,224 +128,144 @@ owners-step l o at d x i w e f =
     let g₂ : at + 3 * w + 2 ≡ suc (suc L) = omega (arith, length-ownersOn d x i) in
     rw (e, g₁, g₂, g, add-one) (sym (sets-append l at (ownersOn d x i) (d ∷ x ∷ i ∷ [])))
 
--- ---- an entity has a slot of its own
+-- ---- a walk
 
-abbrev slotOf : Space → ℕ → ℕ
-slotOf s k = slot (dimensionOf k) (entityOf s k)
+unfoldable pub walk : State → List Visit → State
+walk st [] = st
+walk st (v ∷ vs) = walk (step st v) vs
 
--- what visit k meets, by its dimension
-data View (s : Space) (k : ℕ) : Type 0 where
-  vertex : dimensionOf k ≡ 0 → entityOf s k < mostVertices → slotOf s k ≡ entityOf s k → View s k
-  edge : dimensionOf k ≡ 1 → entityOf s k < mostEdges → slotOf s k ≡ mostVertices + entityOf s k → View s k
-  inside : dimensionOf k ≡ 2 → entityOf s k < mostCells → slotOf s k ≡ mostVertices + mostEdges + entityOf s k → View s k
+pub walk-append : (st : State) (us vs : List Visit) → walk st (us ++ vs) ≡ walk (walk st us) vs
+unfolding walk
+walk-append st [] vs = refl
+walk-append st (u ∷ us) vs = walk-append (step st u) us vs
 
-module _ (s : Space) (C : ℕ) (h : Sized s C) where
-  view : (k : ℕ) → k < 7 * C → View s k
-  unfolding dimensionOf entityOf
-  view k b = go (ltb (k % 7) 3) (ltb (k % 7) 6) refl refl
-    where
-      go : (t u : Bool) → ltb (k % 7) 3 ≡ t → ltb (k % 7) 6 ≡ u → View s k
-      go true u p q = vertex (rw p) (rw p (h .vertices-below (3 * (k / 7) + k % 7) (omega (arith, ltb-true (k % 7) 3 p)))) (rw p)
-      go false true p q = edge (rw (p, q)) (rw (p, q) (h .edges-below (3 * (k / 7) + (k % 7 - 3)) (omega (arith, ltb-true (k % 7) 6 q)))) (rw (p, q))
-      go false false p q = inside (rw (p, q)) (rw (p, q) (omega (arith, h .few))) (rw (p, q))
+walk-one : (st : State) (v : Visit) → walk st (v ∷ []) ≡ step st v
+unfolding walk
+walk-one st v = refl
 
-  slot-below : (k : ℕ) → k < 7 * C → slotOf s k < mostEntities
-  slot-below k b = go (view k b)
-    where
-      go : View s k → slotOf s k < mostEntities
-      go (vertex d e f) = omega arith
-      go (edge d e f) = omega arith
-      go (inside d e f) = omega arith
+-- a walk by one visit more
+pub walk-more : (st : State) (vs : List Visit) (k : ℕ) → k < length vs → walk st (take (suc k) vs) ≡ step (walk st (take k vs)) (visitAt vs k)
+walk-more st vs k h =
+    ap (walk st) (take-suc vs k (visit 0 0 0) h) ∙ walk-append st (take k vs) (visitAt vs k ∷ []) ∙ walk-one (walk st (take k vs)) (visitAt vs k)
 
-  slot-same : (j k : ℕ) → j < 7 * C → k < 7 * C → slotOf s j ≡ slotOf s k → sameEntity s j k ≡ true
-  slot-same j k bj bk q = go (view j bj) (view k bk)
-    where
-      go : View s j → View s k → sameEntity s j k ≡ true
-      go (vertex d e f) (vertex d′ e′ f′) = same-of s j k (omega arith) (omega arith)
-      go (vertex d e f) (edge d′ e′ f′) = absurd (lt-irrefl 0 (omega arith))
-      go (vertex d e f) (inside d′ e′ f′) = absurd (lt-irrefl 0 (omega arith))
-      go (edge d e f) (vertex d′ e′ f′) = absurd (lt-irrefl 0 (omega arith))
-      go (edge d e f) (edge d′ e′ f′) = same-of s j k (omega arith) (omega arith)
-      go (edge d e f) (inside d′ e′ f′) = absurd (lt-irrefl 0 (omega arith))
-      go (inside d e f) (vertex d′ e′ f′) = absurd (lt-irrefl 0 (omega arith))
-      go (inside d e f) (edge d′ e′ f′) = absurd (lt-irrefl 0 (omega arith))
-      go (inside d e f) (inside d′ e′ f′) = same-of s j k (omega arith) (omega arith)
+-- ---- room for n more DOFs
 
-same-slot : (s : Space) (j k : ℕ) → sameEntity s j k ≡ true → slotOf s j ≡ slotOf s k
-same-slot s j k e = ap (λ (d : ℕ). slot d (entityOf s j)) (same-dimension s j k e) ∙ ap (λ (x : ℕ). slot (dimensionOf k) x) (same-number s j k e)
+pub record Room (st : State) (n : ℕ) : Type 0 where
+  pub kept : (x : ℕ) → getD (st .met) x 0 ≤ st .next + 1
+  pub dofs-long : st .at + n ≤ length (st .dofs)
+  pub owners-long : 3 * (st .next + n) ≤ length (st .owners)
+  pub few : st .next + n < 65535
 
--- ---- what the lists hold before visit k
+pub room-less : (st : State) (m n : ℕ) → m ≤ n → Room st n → Room st m
+room-less st m n h r =
+    record { kept = r .kept; dofs-long = omega (arith, r .dofs-long); owners-long = omega (arith, r .owners-long); few = omega (arith, r .few) }
 
-pub record Walked (s : Space) (k : ℕ) (dofs₀ owners₀ met dofs owners : List ℕ) (at next : ℕ) : Type 0 where
-  pub at-is : at ≡ length (dofsTo s k)
-  pub next-is : next ≡ free s k
-  pub dofs-are : dofs ≡ sets dofs₀ 0 (dofsTo s k)
-  pub owners-are : owners ≡ sets owners₀ 0 (ownersTo s k)
-  pub size : length met ≡ mostEntities
-  pub seen : (j : ℕ) → j < k → getD met (slot (dimensionOf j) (entityOf s j)) 0 ≡ suc (start s j)
-  pub unseen : (x : ℕ) → x < mostEntities → ((j : ℕ) → j < k → slot (dimensionOf j) (entityOf s j) ≡ x → ⊥) → getD met x 0 ≡ 0
+-- a mark that is small leaves all marks small
+marks-small : (l : List ℕ) (i a top : ℕ) → a ≤ top → ((x : ℕ) → getD l x 0 ≤ top) → (x : ℕ) → getD (set l i a) x 0 ≤ top
+marks-small l i a top h f x =
+    ⊎-elim (λ e. ⊎-elim (λ b. omega (arith, ap (λ (y : ℕ). getD (set l i a) y 0) e ∙ getD-set-same l i a 0 b)) (λ b. omega (arith, ap (λ (r : List ℕ). getD r x 0) (set-out l i a b), f x)) (lt-or-le i (length l)))
+    (λ n. omega (arith, getD-set-other l i x a 0 n, f x)) (eq-or-ne x i)
 
-pub walked-none : (s : Space) (dofs owners : List ℕ) → Walked s 0 dofs owners (replicate mostEntities 0) dofs owners 0 0
-unfolding dofsTo ownersTo free
-walked-none s dofs owners =
-    record {
-      at-is = refl;
-      next-is = refl;
-      dofs-are = refl;
-      owners-are = refl;
-      size = length-replicate {A = ℕ} mostEntities 0;
-      seen = λ j l. absurd (not-suc-le-zero l);
-      unseen = λ x b f. getD-replicate mostEntities x 0 0 b;
-    }
+room-step : (st : State) (v : Visit) (n : ℕ) → Room st (v .dofs + n) → Room (step st v) n
+room-step st v n r =
+    ⊎-elim (λ e. subst (λ (t : State). Room t n) (sym (step-first st v e)) (record {
+      kept = marks-small (st .met) (slot (v .dimension) (v .entity)) (st .next + 1) (st .next + v .dofs + 1) (omega arith) (λ x. omega (arith, r .kept x));
+      dofs-long = rw length-sets (omega (arith, r .dofs-long));
+      owners-long = rw length-sets (omega (arith, r .owners-long));
+      few = omega (arith, r .few);
+    }))
+    (λ e. subst (λ (t : State). Room t n) (sym (step-again st v e)) (record {
+      kept = r .kept;
+      dofs-long = rw length-sets (omega (arith, r .dofs-long));
+      owners-long = omega (arith, r .owners-long);
+      few = omega (arith, r .few);
+    }))
+    (eq-or-ne (seen st v) 0)
 
--- ---- room in the lists
+-- after visits of entities of one dimension
+room-each : (st : State) (d m : ℕ) (xs : List ℕ) (n : ℕ) → Room st (length xs * m + n) → Room (walk st (visitEach d m xs)) n
+unfolding walk
+room-each st d m [] n r = room-less st n (0 * m + n) (omega arith) r
+room-each st d m (x ∷ xs) n r =
+    room-each (step st (visit d x m)) d m xs n
+    (room-step st (visit d x m) (length xs * m + n) (room-less st (m + (length xs * m + n)) (suc (length xs) * m + n) (omega (arith, suc-mul (length xs) m)) r))
 
-module _ (s : Space) (C : ℕ) (h : Sized s C) where
-  room : (k : ℕ) → k < 7 * C → length (dofsTo s k) + dofsOn s k ≤ C * dim (s .element)
-  room k b = omega (arith, length-next s k (suc k) refl, length-mono s (suc k) (7 * C) b, length-dofs s C)
+-- the loop over these entities: the first k are visited
+pub record Visiting (from : State) (d m : ℕ) (xs : List ℕ) (k : ℕ) (st : State) : Type 0 where
+  pub below : k ≤ length xs
+  pub walked : st ≡ walk from (take k (visitEach d m xs))
+  pub room : Room st ((length xs - k) * m)
 
-  few-dofs : C * dim (s .element) ≤ mostCells * mostDim
-  few-dofs = le-trans (mul-le-mul (h .few) (h .small)) (omega arith)
+module _ (from : State) (d m : ℕ) (xs : List ℕ) where
+  pub visiting-none : Room from (length xs * m) → Visiting from d m xs 0 from
+  unfolding walk
+  visiting-none r =
+      let e : length xs ≡ length xs - 0 = omega arith in
+      record { below = zero-le; walked = refl; room = subst (λ (n : ℕ). Room from (n * m)) e r }
 
-  free-few : (k : ℕ) → k ≤ 7 * C → free s k ≤ mostCells * mostDim
-  free-few k b = omega (arith, free-le-length s k, length-mono s k (7 * C) b, length-dofs s C, few-dofs)
+  module _ (k : ℕ) (st : State) (h : k < length xs) (v : Visiting from d m xs k st) where
+    -- what is left, with the next entity and without
+    left : (length xs - k) * m ≡ m + (length xs - (k + 1)) * m
+    left =
+        let e : length xs - k ≡ suc (length xs - (k + 1)) = omega arith in
+        ap (λ (n : ℕ). n * m) e ∙ suc-mul (length xs - (k + 1)) m ∙ omega arith
 
--- ---- what a visit finds at its slot
+    pub visiting-room : Room st m
+    visiting-room = room-less st m ((length xs - k) * m) (omega (arith, left)) (v .room)
 
-module _ (s : Space) (C : ℕ) (h : Sized s C) {k : ℕ} {dofs₀ owners₀ met dofs owners : List ℕ} {at next : ℕ} (b : k < 7 * C)
-    (w : Walked s k dofs₀ owners₀ met dofs owners at next) where
-  finds-new : isFirst s k ≡ true → getD met (slotOf s k) 0 ≡ 0
-  finds-new f =
-      w .unseen (slotOf s k) (slot-below s C h k b)
-      (λ j l e. true≢false (sym f ∙ first-old s j k l (slot-same s C h j k (omega arith) b e)))
+    pub visiting-turn : (st′ : State) → st′ ≡ step st (visit d (getD xs k 0) m) → Visiting from d m xs (k + 1) st′
+    visiting-turn st′ e =
+        record {
+          below = omega arith;
+          walked =
+              e
+              ∙ ap₂ step (v .walked) (sym (getD-each d m xs k h))
+              ∙ sym (walk-more from (visitEach d m xs) k (omega (arith, length-each d m xs)))
+              ∙ ap (λ (n : ℕ). walk from (take n (visitEach d m xs))) (sym (add-one k));
+          room = subst (λ (t : State). Room t ((length xs - (k + 1)) * m)) (sym e) (room-step st (visit d (getD xs k 0) m) _ (room-less st _ _ (omega (arith, left)) (v .room)));
+        }
 
-  finds-old : isFirst s k ≡ false → getD met (slotOf s k) 0 ≡ suc (start s k)
-  unfolding isFirst start
-  finds-old f =
-      let l : firstVisit s k < k = omega (arith, first-le s k, eqb-false (firstVisit s k) k f) in
-      ap (λ (x : ℕ). getD met x 0) (sym (same-slot s (firstVisit s k) k (first-meets s k)))
-      ∙ w .seen (firstVisit s k) l
-      ∙ ap (λ (x : ℕ). suc (free s x)) (first-first s k)
+  pub visiting-ends : (k : ℕ) (st : State) → length xs ≤ k → Visiting from d m xs k st → st ≡ walk from (visitEach d m xs)
+  visiting-ends k st h v = v .walked ∙ ap (walk from) (take-all k (visitEach d m xs) (omega (arith, length-each d m xs)))
 
-  -- the number that is kept, with the DOFs of the entity, is small
-  kept-few : getD met (slotOf s k) 0 + dofsOn s k < 65536
-  kept-few =
-      ⊎-elim (λ f. omega (arith, finds-new f, room s C h k b, few-dofs s C h)) (λ f. omega (arith, finds-old f, start-below s k (suc k) (omega arith), free-few s C h (suc k) b)) (cases (isFirst s k))
+-- ---- the visits of a cell: its vertices, its edges, its interior
 
-  -- ---- a visit takes the lists to the next one
+-- how many DOFs they have
+unfoldable pub cellDofs : List ℕ → List ℕ → Element → ℕ
+cellDofs vertices edges e = length vertices * e .a + length edges * e .b + e .c
 
-  module _ {met′ dofs′ owners′ : List ℕ} {next′ : ℕ} (v : Visited (slotOf s k) (dimensionOf k) (entityOf s k) (dofsOn s k) at next met dofs owners met′ dofs′ owners′ next′) where
-    -- the numbers that it writes are those of the definition
-    numbers : (z : ℕ) → z ≡ start s k → dofs′ ≡ sets dofs at (upFrom z (dofsOn s k)) → dofs′ ≡ sets dofs₀ 0 (dofsTo s (suc k))
-    unfolding dofsTo
-    numbers z e q =
-        q ∙ rw (e, w .dofs-are, w .at-is) (sym (sets-append dofs₀ 0 (dofsTo s k) (upFrom (start s k) (dofsOn s k)) ∙ rw zero-add))
+module _ (st : State) (vertices edges : List ℕ) (e : Element) where
+  pub vertices-room : Room st (cellDofs vertices edges e) → Room st (length vertices * e .a)
+  unfolding cellDofs
+  vertices-room r = room-less st _ (cellDofs vertices edges e) (omega arith) r
 
-    at-next : at + dofsOn s k ≡ length (dofsTo s (suc k))
-    at-next = omega (arith, w .at-is, length-next s k (suc k) refl)
+  module _ (st₁ : State) (w₁ : st₁ ≡ walk st (visitEach 0 (e .a) vertices)) where
+    both-room : (n : ℕ) → Room st (cellDofs vertices edges e + n) → Room st₁ (length edges * e .b + (e .c + n))
+    unfolding cellDofs
+    both-room n r =
+        subst (λ (t : State). Room t (length edges * e .b + (e .c + n))) (sym w₁)
+        (room-each st 0 (e .a) vertices _ (room-less st _ (cellDofs vertices edges e + n) (omega arith) r))
 
-    -- it was met here first: the next free numbers, and a mark at its slot
-    module _ (f : isFirst s k ≡ true) where
-      zero-there : eqb (getD met (slotOf s k) 0) 0 ≡ true
-      zero-there = eq-eqb (getD met (slotOf s k) 0) 0 (finds-new f)
+    pub edges-room : Room st (cellDofs vertices edges e) → Room st₁ (length edges * e .b)
+    edges-room r = room-less st₁ _ _ (omega arith) (both-room 0 (room-less st _ _ (omega arith) r))
 
-      marked : met′ ≡ set met (slotOf s k) (next + 1)
-      marked = v .met-is ∙ rw zero-there
+    module _ (st₂ : State) (w₂ : st₂ ≡ walk st₁ (visitEach 1 (e .b) edges)) where
+      cell-room : (n : ℕ) → Room st (cellDofs vertices edges e + n) → Room st₂ (e .c + n)
+      cell-room n r = subst (λ (t : State). Room t (e .c + n)) (sym w₂) (room-each st₁ 1 (e .b) edges (e .c + n) (both-room n r))
 
-      owned : owners′ ≡ sets owners₀ 0 (ownersTo s (suc k))
-      unfolding ownersTo
-      owned =
-          let g : 3 * next ≡ length (ownersTo s k) = omega (arith, w .next-is, length-owners s k) in
-          v .owners-is
-          ∙ rw (zero-there, f, w .owners-are, g) (sym (sets-append owners₀ 0 (ownersTo s k) (ownersOn (dimensionOf k) (entityOf s k) (dofsOn s k)) ∙ rw zero-add))
+      pub inside-room : Room st (cellDofs vertices edges e) → Room st₂ (e .c)
+      inside-room r = room-less st₂ _ _ (omega arith) (cell-room 0 (room-less st _ _ (omega arith) r))
 
-      mark-at : (j : ℕ) → j < suc k → getD met′ (slotOf s j) 0 ≡ suc (start s j)
-      mark-at j l = rw marked (⊎-elim here before (eq-or-lt-of-le (le-of-suc-le-suc l)))
-        where
-          here : j ≡ k → getD (set met (slotOf s k) (next + 1)) (slotOf s j) 0 ≡ suc (start s j)
-          here e =
-              rw e (getD-set-same met (slotOf s k) (next + 1) 0 (rw (w .size) (slot-below s C h k b)) ∙ omega (arith, w .next-is, start-first s k f))
+      pub cell-walked : (cell : ℕ) (st₃ : State) → st₃ ≡ step st₂ (visit 2 cell (e .c)) → st₃ ≡ walk st (visitsOf cell vertices edges e)
+      unfolding visitsOf
+      cell-walked cell st₃ w₃ =
+          w₃
+          ∙ ap (λ (t : State). step t (visit 2 cell (e .c))) (w₂ ∙ ap (λ (t : State). walk t (visitEach 1 (e .b) edges)) w₁ ∙ sym (walk-append st (visitEach 0 (e .a) vertices) (visitEach 1 (e .b) edges)))
+          ∙ sym (walk-append st (visitEach 0 (e .a) vertices ++ visitEach 1 (e .b) edges) (visit 2 cell (e .c) ∷ []) ∙ walk-one _ (visit 2 cell (e .c)))
 
-          before : j < k → getD (set met (slotOf s k) (next + 1)) (slotOf s j) 0 ≡ suc (start s j)
-          before lt =
-              getD-set-other met (slotOf s k) (slotOf s j) (next + 1) 0 (λ e. true≢false (sym f ∙ first-old s j k lt (slot-same s C h j k (omega arith) b e)))
-              ∙ w .seen j lt
-
-      step-new : Walked s (suc k) dofs₀ owners₀ met′ dofs′ owners′ (at + dofsOn s k) next′
-      step-new =
-          record {
-            at-is = at-next;
-            next-is = v .next-is ∙ rw zero-there (omega (arith, w .next-is, free-step s k f));
-            dofs-are = numbers next (w .next-is ∙ sym (start-first s k f)) (v .dofs-is ∙ rw zero-there);
-            owners-are = owned;
-            size = rw (marked, length-set) (w .size);
-            seen = mark-at;
-            unseen = λ x bx fx. rw marked (getD-set-other met (slotOf s k) x (next + 1) 0 (λ e. fx k (omega arith) (sym e)) ∙ w .unseen x bx (λ j l. fx j (omega arith)));
-          }
-
-    -- it was met before: the numbers that it has
-    module _ (f : isFirst s k ≡ false) where
-      mark-there : eqb (getD met (slotOf s k) 0) 0 ≡ false
-      mark-there = ne-eqb (getD met (slotOf s k) 0) 0 (λ e. lt-irrefl 0 (omega (arith, finds-old f)))
-
-      kept : met′ ≡ met
-      kept = v .met-is ∙ rw mark-there
-
-      not-owned : owners′ ≡ sets owners₀ 0 (ownersTo s (suc k))
-      unfolding ownersTo
-      not-owned = v .owners-is ∙ rw (mark-there, f, append-nil) (w .owners-are)
-
-      step-old : Walked s (suc k) dofs₀ owners₀ met′ dofs′ owners′ (at + dofsOn s k) next′
-      step-old =
-          record {
-            at-is = at-next;
-            next-is = v .next-is ∙ rw mark-there (w .next-is ∙ sym (free-stays s k f));
-            dofs-are = numbers (getD met (slotOf s k) 0 - 1) (omega (arith, finds-old f)) (v .dofs-is ∙ rw mark-there);
-            owners-are = not-owned;
-            size = rw kept (w .size);
-            seen = λ j l. rw kept (⊎-elim (λ e. rw e (finds-old f)) (λ lt. w .seen j lt) (eq-or-lt-of-le (le-of-suc-le-suc l)));
-            unseen = λ x bx fx. rw kept (w .unseen x bx (λ j l. fx j (omega arith)));
-          }
-
-    step : Walked s (suc k) dofs₀ owners₀ met′ dofs′ owners′ (at + dofsOn s k) next′
-    step = ⊎-elim step-new step-old (cases (isFirst s k))
-
--- ---- a turn of the loop, with the numbers that the program has at hand: slot i, dimension d, entity x and m DOFs
-
-module _ (s : Space) (C k : ℕ) {dofs₀ owners₀ met dofs owners : List ℕ} {at next i d x m : ℕ} (h : Sized s C) (b : k < 7 * C)
-    (w : Walked s k dofs₀ owners₀ met dofs owners at next) (dims : d ≡ dimensionOf k) (ents : x ≡ entityAt (s .cellVertices) (s .cellEdges) k)
-    (slots : i ≡ slot d x) (counts : m ≡ dofsAt (s .element) k) where
-  entity-is : x ≡ entityOf s k
-  unfolding entityOf
-  entity-is = ents
-
-  slot-is : i ≡ slotOf s k
-  slot-is = slots ∙ rw (dims, entity-is)
-
-  count-is : m ≡ dofsOn s k
-  unfolding dofsOn
-  count-is = counts
-
-  -- what `visit` asks
-  pub visit-asks : length dofs ≡ C * dim (s .element) → length owners ≡ 3 * (C * dim (s .element))
-      → (i < mostEntities) × (at + m ≤ length dofs) × (3 * (next + m) ≤ length owners) × (next + m < 65536) × (getD met i 0 + m < 65536)
-  visit-asks ld lo =
-      let r : at + m ≤ C * dim (s .element) = omega (arith, count-is, w .at-is, room s C h k b) in
-      let f : next + m ≤ C * dim (s .element) = omega (arith, count-is, w .next-is, room s C h k b, free-le-length s k) in
-      (rw slot-is (slot-below s C h k b), omega arith, omega arith, omega (arith, few-dofs s C h), rw (slot-is, count-is) (kept-few s C h b w))
-
-  -- what it gives
-  pub visit-gives : {met′ dofs′ owners′ : List ℕ} {next′ : ℕ} → Visited i d x m at next met dofs owners met′ dofs′ owners′ next′
-      → (p : ℕ) → p ≡ m → Walked s (k + 1) dofs₀ owners₀ met′ dofs′ owners′ (at + p) next′
-  visit-gives v p e = rw (add-one, e, count-is) (step s C h b w (rw (slot-is, dims, entity-is, count-is) at v))
-
--- after the last visit
-pub walk-ends : (s : Space) (C : ℕ) {dofs₀ owners₀ met dofs owners : List ℕ} {at next k : ℕ} → k ≡ 7 * C → length dofs₀ ≡ C * dim (s .element)
-    → length owners₀ ≡ 3 * (C * dim (s .element)) → Walked s k dofs₀ owners₀ met dofs owners at next
-    → (next ≡ dofCount s C) × (dofs ≡ dofList s C) × (owners ≡ ownerList s C ++ drop (3 * dofCount s C) owners₀)
-walk-ends s C {dofs₀} {owners₀} e ld lo w = (
-  w .next-is ∙ rw e,
-  w .dofs-are ∙ rw e (sets-all dofs₀ (dofsTo s (7 * C)) (length-dofs s C ∙ sym ld)),
-  w .owners-are
-      ∙ rw e (sets-front owners₀ (ownersTo s (7 * C)) (omega (arith, length-owners s (7 * C), free-le-length s (7 * C), length-dofs s C)) ∙ rw length-owners),
-)
+  -- room that is left after them
+  pub room-cell : (cell n : ℕ) → Room st (cellDofs vertices edges e + n) → Room (walk st (visitsOf cell vertices edges e)) n
+  room-cell cell n r =
+      let st₁ : State = walk st (visitEach 0 (e .a) vertices) in
+      let st₂ : State = walk st₁ (visitEach 1 (e .b) edges) in
+      subst (λ (t : State). Room t n) (cell-walked st₁ refl st₂ refl cell (step st₂ (visit 2 cell (e .c))) refl) (room-step st₂ (visit 2 cell (e .c)) n (cell-room st₁ refl st₂ refl n r))

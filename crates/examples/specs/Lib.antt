@@ -2,12 +2,12 @@
 -- what the paper says, in `specs/Examples.antt` of the crate of its layer, and antt computes it there. Assumes nothing.
 use mathlib.Core.List.{List, [], _∷_}
 use Rattle.lists.specs.Examples.{Example, Agree, no-more, _and-also_}
-use Rattle.function.specs.Examples.{M1-colours, M3-colours, M1-colours-holds, M3-colours-holds, by-edges, by-edges-holds}
-use Rattle.dof_numbering.specs.Examples.{M1-dofs, M2-dofs, M2-owners, M2-count, M1-dofs-holds, M2-dofs-holds, M2-owners-holds, M2-count-holds, two-an-edge, two-owners, two-an-edge-holds, two-owners-holds}
+use Rattle.function.specs.Examples.{M1-colours, M3-colours, M1-colours-holds, M3-colours-holds, by-edges, by-edges-holds, first-kind, first-kind-holds}
+use Rattle.dof_numbering.specs.Examples.{M1-dofs, M2-dofs, M2-owners, M2-count, M1-dofs-holds, M2-dofs-holds, M2-owners-holds, M2-count-holds, two-an-edge, two-owners, two-an-edge-holds, two-owners-holds, quad-beside, quad-owners, quad-inside, inside-owners, quad-beside-holds, quad-owners-holds, quad-inside-holds, inside-owners-holds}
 use Rattle.integrands.specs.Examples.{F3, F4, F3-holds, F4-holds, double, normals, factor, two, one, double-holds, normals-hold, factor-holds, two-holds, one-holds}
 use Rattle.lent_numbers.specs.Examples.{F1, F2, F1-rounded, F2-rounded, F1-holds, F2-holds, F1-rounded-holds, F2-rounded-holds, two-points, four-pairs, point-order, two-points-hold, four-pairs-hold, point-order-holds}
 use Rattle.scatter.specs.Examples.{added, rows-columns, values, added-holds, rows-columns-hold, values-hold}
-use Rattle.cell_pairs.specs.Examples.{M4-records, M5-records, M7-records, M4-records-holds, M5-records-holds, M7-records-holds, patterns, patterns-hold}
+use Rattle.cell_pairs.specs.Examples.{M4-records, M5-records, M7-records, M4-records-holds, M5-records-holds, M7-records-holds, patterns, patterns-hold, mixed-records, mixed-records-holds}
 use Rattle.plans.specs.Examples.{M-planned, M-sizes, M6, M7, M7-work, M8, work-lists, first-fault, M-planned-holds, M-sizes-holds, M6-holds, M7-holds, M7-work-holds, M8-holds, work-lists-hold, first-fault-holds}
 use Rattle.runs.specs.Examples.{first-look, looks-answered, adds-answered, first-look-holds, looks-answered-hold, adds-answered-hold}
 use Rattle.job.specs.Examples.{M4-read, M4-lists, read-numbers, M4-read-holds, M4-lists-hold, read-numbers-hold}
@@ -48,7 +48,7 @@ theorem =
     and-also no-more
 
 -- and some beside them, for what these leave untouched: M4, M5 and M7 as records, M accepted, with its rows and columns, M7 and M8 as text, jobs cut short,
--- longer and too large, what reading a job answers and writes; owner records, a DOF count, colours by edges, two DOFs on an entity; the plus 1 of a pattern and
+-- longer and too large, what reading a job answers and writes; owner records, a DOF count, colours by edges, two DOFs on an entity; numbers, owners, colours and distant pairs of quads beside triangles; the plus 1 of a pattern and
 -- its i and j; kinds 1 and 4, a factor, two terms; sums in which rounding shows, and ones of several points and basis functions; where local entries go, and in
 -- which order; work lists as planning leaves them, the first of several faults, record 0 looked at, and what look and the adds answer to runs and plans that no
 -- planning gave
@@ -56,6 +56,7 @@ abbrev pub more : List Example
 more =
     M4-records ∷ M5-records ∷ M7-records ∷ M-planned ∷ M-sizes ∷ M7-twice-text ∷ refused-texts ∷ M4-read ∷ M4-lists
     ∷ read-numbers ∷ M2-owners ∷ M2-count ∷ F1-rounded ∷ F2-rounded ∷ by-edges ∷ two-an-edge ∷ two-owners ∷ patterns
+    ∷ first-kind ∷ quad-beside ∷ quad-owners ∷ quad-inside ∷ inside-owners ∷ mixed-records
     ∷ double ∷ normals ∷ factor ∷ two ∷ one ∷ two-points ∷ four-pairs ∷ point-order ∷ added
     ∷ rows-columns ∷ values ∷ work-lists ∷ first-fault ∷ first-look ∷ looks-answered ∷ adds-answered ∷ []
 
@@ -79,6 +80,12 @@ more-hold =
     and-also two-an-edge-holds
     and-also two-owners-holds
     and-also patterns-hold
+    and-also first-kind-holds
+    and-also quad-beside-holds
+    and-also quad-owners-holds
+    and-also quad-inside-holds
+    and-also inside-owners-holds
+    and-also mixed-records-holds
     and-also double-holds
     and-also normals-hold
     and-also factor-holds

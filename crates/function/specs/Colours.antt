@@ -8,9 +8,12 @@ use lib.ListN.{length, getD}
 use lib.Dec.{eqb, ltb}
 use Rattle.lists.specs.Bool.{_and_}
 use Rattle.lists.specs.Bounded.{some, least}
-use Rattle.grid.specs.Shape.{share}
-use Rattle.grid.specs.Mesh.{mostCells}
-use Rattle.function.specs.Elements.{Space}
+use Rattle.grid.specs.Cells.{shareIn}
+use Rattle.grid.specs.Mesh.{mostCells, mostVertices, mostEdges, kindsPresent}
+use Rattle.grid.specs.declared.Sizes.{Sizes}
+use Rattle.cells_by_key.specs.Groups.{Below}
+use Rattle.function.specs.declared.Element.{Element}
+use Rattle.function.specs.Elements.{elementOf, Space}
 
 -- an earlier cell that shares with cell i, by the relation r, has colour c of the colours cs
 unfoldable pub taken : (ℕ → ℕ → Bool) → List ℕ → ℕ → ℕ → Bool
@@ -25,9 +28,13 @@ unfoldable pub coloursTo : (ℕ → ℕ → Bool) → ℕ → List ℕ
 coloursTo r zero = []
 coloursTo r (suc n) = coloursTo r n ++ (smallest r (coloursTo r n) n ∷ [])
 
--- the dimension is 0 if a > 0, else 1 if b > 0, else 2, where the entity of a cell is the cell itself
+-- the element of the first kind present (of no cells, the triangle's), from which the dimension is read
+abbrev pub leading : Space → Element
+leading s = elementOf (s .elements) (getD (kindsPresent (s .kinds)) 0 3)
+
+-- it is 0 if a > 0, else 1 if b > 0, else 2, where the entity of a cell is the cell itself
 abbrev pub sharing : Space → ℕ → ℕ → Bool
-sharing s = cond (ltb 0 (s .element .a)) (share (s .cellVertices)) (cond (ltb 0 (s .element .b)) (share (s .cellEdges)) eqb)
+sharing s = cond (ltb 0 (leading s .a)) (shareIn (s .kinds) (s .cellVertices)) (cond (ltb 0 (leading s .b)) (shareIn (s .kinds) (s .cellEdges)) eqb)
 
 -- the colours of C cells
 unfoldable pub colourList : Space → ℕ → List ℕ
@@ -38,9 +45,18 @@ unfoldable pub colourCount : List ℕ → ℕ
 colourCount [] = 0
 colourCount (c ∷ cs) = max (suc c) (colourCount cs)
 
--- what `cell_colouring` asks of its lists: three numbers a cell, and one place for each colour
-pub record Colourable (C : ℕ) (vertices edges colours : List ℕ) : Type 0 where
-  pub cells : C ≤ mostCells
-  pub vertex-list : length vertices ≡ 3 * C
-  pub edge-list : length edges ≡ 3 * C
-  pub places : length colours ≡ C
+-- what `cell_colouring` asks of its lists: three numbers a cell, each below the number of vertices or of edges, and one place for each colour
+pub record Colourable (s : Sizes) (vertices edges colours : List ℕ) : Type 0 where
+  pub cells : s .cells ≤ mostCells
+  pub few-vertices : s .vertices ≤ mostVertices
+  pub few-edges : s .edges ≤ mostEdges
+  pub vertex-list : length vertices ≡ 3 * s .cells
+  pub edge-list : length edges ≡ 3 * s .cells
+  pub vertices-below : Below vertices (s .vertices)
+  pub edges-below : Below edges (s .edges)
+  pub places : length colours ≡ s .cells
+
+-- the lists in which it groups the cells: a place for each number of a list, and one for each vertex or edge
+pub record Scratch (order ends : List ℕ) : Type 0 where
+  pub places : length order ≡ 3 * mostCells
+  pub entities : length ends ≡ mostEdges

@@ -9,15 +9,22 @@ use mathlib.Core.Logic.{⊎-elim}
 use mathlib.Core.List.{List, [], _∷_, _++_}
 use lib.ListN.{length, getD, set, take, length-append, List·getD-append, replicate, getD-replicate, length-replicate, length-set}
 use lib.Seq.{sets, getD-at, getD-set-same, getD-set-other, take-suc, take-all}
-use lib.Dec.{eqb}
-use borrow.Author.Tests.{eq-eqb, ne-eqb, not-true, lt-ltb, le-ltb}
-use Rattle.lists.specs.Bool.{_and_, _or_, true≢false, and-both, and-no-left, and-no-right, or-right}
-use Rattle.lists.specs.Bounded.{some, least, some-not, some-none, some-ext, some-more, some-start, least-is, least-le, least-holds, least-ext, eq-or-ne}
+use lib.Dec.{eqb, ltb}
+use borrow.Author.Tests.{eq-eqb, ne-eqb, not-true, lt-ltb, le-ltb, ltb-true}
+use Rattle.lists.specs.Bool.{_and_, _or_, true≢false, same-test, and-left, and-right, and-both, and-no-left, or-right}
+use Rattle.lists.specs.Bounded.{some, least, some-not, some-none, some-ext, some-more, some-start, some-at, some-which, least-is, least-le, least-holds, least-ext, eq-or-ne}
 use Rattle.lists.specs.Stores.{sets-more, sets-all, getD-front}
-use Rattle.grid.specs.Shape.{has, share}
-use Rattle.grid.specs.Mesh.{mostCells}
-use Rattle.function.specs.Elements.{Space}
-use Rattle.function.specs.Colours.{taken, smallest, coloursTo, sharing, colourList, colourCount}
+use Rattle.grid.specs.Cells.{shareIn}
+use Rattle.grid.specs.CellsFacts.{share-which, share-at}
+use Rattle.grid.specs.Shape.{entity, triple, has, share}
+use Rattle.grid.specs.Mesh.{mostCells, mostEdges, triangles, kindsPresent}
+use Rattle.grid.specs.Facts.{has-place, has-at, triangles-share}
+use Rattle.grid.specs.KindsFacts.{triangles-first}
+use Rattle.grid.specs.declared.Sizes.{Sizes}
+use Rattle.cells_by_key.specs.Groups.{cellsWith, Below}
+use Rattle.cells_by_key.specs.GroupsFacts.{in-group, group-place}
+use Rattle.function.specs.Elements.{elementOf, Space}
+use Rattle.function.specs.Colours.{taken, smallest, coloursTo, leading, sharing, colourList, colourCount, Colourable}
 
 -- ---- the colours, one by one
 
@@ -83,84 +90,169 @@ smallest-alone cs i =
     least-is i (λ c. not (taken eqb cs i c)) 0 (omega arith) (λ k b. absurd (not-suc-le-zero b))
     (λ l. ap not (some-none i (λ j. eqb i j and eqb (getD cs j 0) 0) (λ j b. and-no-left (eqb i j) (eqb (getD cs j 0) 0) (ne-eqb i j (λ e. lt-irrefl i (omega arith))))))
 
--- ---- marks: 1 for a colour that a cell below n that shares with cell i has, else 0
+-- ---- marks: cell i marks a colour with i + 1
 
-unfoldable pub takenTo : (ℕ → ℕ → Bool) → List ℕ → ℕ → ℕ → ℕ → Bool
-takenTo r cs i n c = some n (λ j. r i j and eqb (getD cs j 0) c)
+-- c is the colour of a cell below i, of the first n of the cells
+unfoldable pub colourTo : List ℕ → List ℕ → ℕ → ℕ → ℕ → Bool
+colourTo cells cs i n c = some n (λ k. ltb (getD cells k 0) i and eqb (getD cs (getD cells k 0) 0) c)
 
-pub record Marked (r : ℕ → ℕ → Bool) (cs : List ℕ) (i n : ℕ) (u : List ℕ) : Type 0 where
+-- v is u with the mark of cell i at each colour that passes the test
+pub record Marked (i : ℕ) (test : ℕ → Bool) (u v : List ℕ) : Type 0 where
+  pub long : length v ≡ mostCells
+  pub mark : (c : ℕ) → c < mostCells → getD v c 0 ≡ cond (test c) (i + 1) (getD u c 0)
+
+-- marks of the first n cells: none is above n
+pub record Marks (n : ℕ) (u : List ℕ) : Type 0 where
   pub long : length u ≡ mostCells
-  pub mark : (c : ℕ) → c < mostCells → getD u c 0 ≡ cond (takenTo r cs i n c) 1 0
+  pub low : (c : ℕ) → c < mostCells → getD u c 0 ≤ n
 
--- before the first cell nothing is marked
-pub mark-none : (r : ℕ → ℕ → Bool) (cs : List ℕ) (i : ℕ) → Marked r cs i 0 (replicate mostCells 0)
-unfolding takenTo
-mark-none r cs i =
-    record {
-      long = length-replicate {A = ℕ} mostCells 0;
-      mark = λ c b. getD-replicate mostCells c 0 0 b ∙ ap (λ (t : Bool). cond t 1 0) (sym (some-start (λ j. r i j and eqb (getD cs j 0) c)));
-    }
-
--- the first colour without a mark is the smallest that is not taken
-pub marks-smallest : {r : ℕ → ℕ → Bool} {cs u : List ℕ} {i : ℕ} → i ≤ mostCells → Marked r cs i i u → least i (λ k. eqb (getD u k 0) 0) ≡ smallest r cs i
-unfolding smallest taken takenTo
-marks-smallest {r} {cs} {u} {i} b h =
-    least-ext i (λ k. eqb (getD u k 0) 0) (λ k. not (taken r cs i k)) (λ k l. rw (h .mark k (omega arith)) (zero-not (taken r cs i k)))
-  where
-    zero-not : (t : Bool) → eqb (cond t 1 0) 0 ≡ not t
-    zero-not true = refl
-    zero-not false = refl
+pub marks-none : Marks 0 (replicate mostCells 0)
+marks-none = record { long = length-replicate {A = ℕ} mostCells 0; low = λ c b. omega (arith, getD-replicate {A = ℕ} mostCells c 0 0 b) }
 
 or-false : (t : Bool) → t or false ≡ t
 unfolding _or_
 or-false true = refl
 or-false false = refl
 
-module _ {r : ℕ → ℕ → Bool} {cs : List ℕ} {i j : ℕ} {u : List ℕ} (h : Marked r cs i j u) where
-  more : (c : ℕ) → takenTo r cs i (j + 1) c ≡ (takenTo r cs i j c or (r i j and eqb (getD cs j 0) c))
-  unfolding takenTo
-  more c = some-more j (λ n. r i n and eqb (getD cs n 0) c)
+marked-none : {i : ℕ} {u : List ℕ} (test : ℕ → Bool) → length u ≡ mostCells → ((c : ℕ) → test c ≡ false) → Marked i test u u
+marked-none test e none = record { long = e; mark = λ c b. rw (none c) }
 
-  -- a colour that cell j, as it does not share or has another one, leaves as it was
-  same : (c : ℕ) → r i j and eqb (getD cs j 0) c ≡ false → takenTo r cs i (j + 1) c ≡ takenTo r cs i j c
-  same c f = more c ∙ rw f (or-false (takenTo r cs i j c))
+module _ {i : ℕ} {test : ℕ → Bool} {u v : List ℕ} (h : Marked i test u v) where
+  marked-as : (other : ℕ → Bool) → ((c : ℕ) → other c ≡ test c) → Marked i other u v
+  marked-as other e = record { long = h .long; mark = λ c b. rw (e c) (h .mark c b) }
 
-  -- cell j does not share with cell i
-  pub mark-no : r i j ≡ false → Marked r cs i (j + 1) u
-  mark-no f =
-      record {
-        long = h .long;
-        mark = λ c b. rw (same c (and-no-left (r i j) (eqb (getD cs j 0) c) f)) (h .mark c b);
-      }
-
-  -- cell j, of colour a, does
-  pub mark-yes : (a : ℕ) → r i j ≡ true → a ≡ getD cs j 0 → Marked r cs i (j + 1) (set u a 1)
-  mark-yes a f q = record { long = length-set u a 1 ∙ h .long; mark = λ c b. ⊎-elim (here c b) (other c b) (eq-or-ne c a) }
+  -- the colour a too
+  marked-one : (a : ℕ) → a < mostCells → Marked i (λ c. test c or eqb a c) u (set v a (i + 1))
+  marked-one a l = record { long = length-set v a (i + 1) ∙ h .long; mark = λ c b. ⊎-elim (here c) (other c b) (eq-or-ne a c) }
     where
-      here : (c : ℕ) → c < mostCells → c ≡ a → getD (set u a 1) c 0 ≡ cond (takenTo r cs i (j + 1) c) 1 0
-      here c b p =
-          let t : takenTo r cs i (j + 1) c ≡ true = more c ∙ or-right (takenTo r cs i j c) (r i j and eqb (getD cs j 0) c) (and-both (r i j) (eqb (getD cs j 0) c) f (eq-eqb (getD cs j 0) c (sym (p ∙ q)))) in
-          rw t (ap (λ (n : ℕ). getD (set u a 1) n 0) p ∙ getD-set-same u a 1 0 (omega (arith, h .long)))
+      here : (c : ℕ) → a ≡ c → getD (set v a (i + 1)) c 0 ≡ cond (test c or eqb a c) (i + 1) (getD u c 0)
+      here c e = rw (or-right (test c) (eqb a c) (eq-eqb a c e)) (ap (λ (k : ℕ). getD (set v a (i + 1)) k 0) (sym e) ∙ getD-set-same v a (i + 1) 0 (omega (arith, h .long)))
 
-      other : (c : ℕ) → c < mostCells → (c ≡ a → ⊥) → getD (set u a 1) c 0 ≡ cond (takenTo r cs i (j + 1) c) 1 0
-      other c b p =
-          rw (same c (and-no-right (r i j) (eqb (getD cs j 0) c) (ne-eqb (getD cs j 0) c (λ z. p (sym (q ∙ z))))))
-          (getD-set-other u a c 1 0 p ∙ h .mark c b)
+      other : (c : ℕ) → c < mostCells → (a ≡ c → ⊥) → getD (set v a (i + 1)) c 0 ≡ cond (test c or eqb a c) (i + 1) (getD u c 0)
+      other c b e = rw (ne-eqb a c e, or-false (test c)) (getD-set-other v a c (i + 1) 0 (λ z. e (sym z)) ∙ h .mark c b)
+
+  -- those of another test too
+  marked-more : {other : ℕ → Bool} {w : List ℕ} → Marked i other v w → Marked i (λ c. test c or other c) u w
+  unfolding _or_
+  marked-more {other} g = record { long = g .long; mark = λ c b. g .mark c b ∙ rw (h .mark c b) (twice (test c) (other c) (i + 1) (getD u c 0)) }
+    where
+      twice : (s t : Bool) (m n : ℕ) → cond t m (cond s m n) ≡ cond (s or t) m n
+      twice true true m n = refl
+      twice true false m n = refl
+      twice false t m n = refl
+
+  -- what cell i marks of marks of earlier cells
+  module _ (low : Marks i u) where
+    pub marks-next : Marks (i + 1) v
+    marks-next = record { long = h .long; low = λ c b. rw (h .mark c b) (choice (test c) (getD u c 0) (low .low c b)) }
+      where
+        choice : (t : Bool) (n : ℕ) → n ≤ i → cond t (i + 1) n ≤ i + 1
+        choice true n l = omega arith
+        choice false n l = omega arith
+
+    mark-test : (c : ℕ) → c < mostCells → eqb (getD v c 0) (i + 1) ≡ test c
+    mark-test c b = rw (h .mark c b) (choice (test c) (getD u c 0) (low .low c b))
+      where
+        choice : (t : Bool) (n : ℕ) → n ≤ i → eqb (cond t (i + 1) n) (i + 1) ≡ t
+        choice true n l = eq-eqb (i + 1) (i + 1) refl
+        choice false n l = ne-eqb n (i + 1) (λ e. lt-irrefl i (omega arith))
+
+-- the first colour without a mark of cell i is the smallest that is not taken
+pub marks-smallest : (r : ℕ → ℕ → Bool) (cs : List ℕ) {u v : List ℕ} (i : ℕ) → i ≤ mostCells → Marks i u → Marked i (taken r cs i) u v
+    → least i (λ c. not (eqb (getD v c 0) (i + 1))) ≡ smallest r cs i
+unfolding smallest
+marks-smallest r cs {u} {v} i b low h = least-ext i (λ c. not (eqb (getD v c 0) (i + 1))) (λ c. not (taken r cs i c)) (λ c l. ap not (mark-test h low c (omega arith)))
+
+-- ---- the colours of a list of cells, marked one cell after the other
+
+module _ (cells cs : List ℕ) (i : ℕ) where
+  pub mark-start : {u : List ℕ} → length u ≡ mostCells → Marked i (colourTo cells cs i 0) u u
+  unfolding colourTo
+  mark-start e = marked-none (colourTo cells cs i 0) e (λ c. some-start _)
+
+  module _ (k : ℕ) {u v : List ℕ} (h : Marked i (colourTo cells cs i k) u v) {j : ℕ} (e : j ≡ getD cells k 0) where
+    more : (c : ℕ) → colourTo cells cs i (k + 1) c ≡ (colourTo cells cs i k c or (ltb j i and eqb (getD cs j 0) c))
+    unfolding colourTo
+    more c = some-more k (λ n. ltb (getD cells n 0) i and eqb (getD cs (getD cells n 0) 0) c) ∙ rw (← e)
+
+    -- cell j is not below i
+    pub mark-no : i ≤ j → Marked i (colourTo cells cs i (k + 1)) u v
+    mark-no l =
+        marked-as h (colourTo cells cs i (k + 1))
+        (λ c. more c ∙ rw (and-no-left (ltb j i) (eqb (getD cs j 0) c) (le-ltb j i l)) (or-false (colourTo cells cs i k c)))
+
+    -- it is, and has the colour a
+    pub mark-yes : j < i → {a : ℕ} → a ≡ getD cs j 0 → a < mostCells → Marked i (colourTo cells cs i (k + 1)) u (set v a (i + 1))
+    unfolding _and_
+    mark-yes l {a} q b = marked-as (marked-one h a b) (colourTo cells cs i (k + 1)) (λ c. more c ∙ rw (lt-ltb j i l, q))
+
+-- ---- the colours of the cells that share an entity with cell i, marked one entity after the other
+
+-- c is the colour of a cell below i, of those that have one of the first p entities of cell i
+unfoldable pub sharingTo : List ℕ → List ℕ → ℕ → ℕ → ℕ → Bool
+sharingTo l cs i p c = some p (λ q. colourTo (cellsWith l 3 (entity l i q)) cs i (length (cellsWith l 3 (entity l i q))) c)
+
+module _ (l cs : List ℕ) (i : ℕ) where
+  pub sharing-start : {u : List ℕ} → length u ≡ mostCells → Marked i (sharingTo l cs i 0) u u
+  unfolding sharingTo
+  sharing-start e = marked-none (sharingTo l cs i 0) e (λ c. some-start _)
+
+  pub sharing-more : (p : ℕ) {u v w : List ℕ} → Marked i (sharingTo l cs i p) u v → {xs : List ℕ} → xs ≡ cellsWith l 3 (entity l i p)
+      → Marked i (colourTo xs cs i (length xs)) v w → Marked i (sharingTo l cs i (p + 1)) u w
+  unfolding sharingTo
+  sharing-more p h e g =
+      marked-as (marked-more h g) (sharingTo l cs i (p + 1))
+      (λ c. some-more p (λ q. colourTo (cellsWith l 3 (entity l i q)) cs i (length (cellsWith l 3 (entity l i q))) c) ∙ rw (← e))
+
+  -- with all three: an earlier cell shares with cell i exactly where it is one of the cells of an entity of cell i
+  sharing-taken : 3 * i + 3 ≤ length l → (c : ℕ) → taken (share l) cs i c ≡ sharingTo l cs i 3 c
+  unfolding sharingTo colourTo taken
+  sharing-taken b c = same-test (taken (share l) cs i c) (sharingTo l cs i 3 c) there back
+    where
+      there : taken (share l) cs i c ≡ true → sharingTo l cs i 3 c ≡ true
+      there e =
+          let w = some-which i (λ j. share l i j and eqb (getD cs j 0) c) e in
+          let x = share-which (triple l i) (triple l (w .0)) (and-left _ _ (w .2)) in
+          let s = has-place l i (x .0) (x .1) in
+          let g = group-place l (entity l i (s .0)) (w .0) (omega (arith, w .1, b)) (subst (λ (y : ℕ). has l (w .0) y ≡ true) (sym (s .2)) (x .2)) in
+          some-at 3 (λ q. colourTo (cellsWith l 3 (entity l i q)) cs i (length (cellsWith l 3 (entity l i q))) c) (s .0) (s .1)
+          (some-at _ _ (g .0) (g .1) (rw (g .2) (and-both _ _ (lt-ltb (w .0) i (w .1)) (and-right _ _ (w .2)))))
+
+      back : sharingTo l cs i 3 c ≡ true → taken (share l) cs i c ≡ true
+      back e =
+          let w = some-which 3 (λ q. colourTo (cellsWith l 3 (entity l i q)) cs i (length (cellsWith l 3 (entity l i q))) c) e in
+          let v = some-which _ _ (w .2) in
+          let j : ℕ = getD (cellsWith l 3 (entity l i (w .0))) (v .0) 0 in
+          some-at i (λ j. share l i j and eqb (getD cs j 0) c) j (ltb-true j i (and-left _ _ (v .2)))
+          (and-both _ _ (share-at (triple l i) (triple l j) (entity l i (w .0)) (has-at l i (w .0) _ (w .1) refl) (in-group l (entity l i (w .0)) (v .0) (v .1))) (and-right _ _ (v .2)))
+
+  pub sharing-done : {u v : List ℕ} → 3 * i + 3 ≤ length l → Marked i (sharingTo l cs i 3) u v → Marked i (taken (share l) cs i) u v
+  sharing-done b h = marked-as h (taken (share l) cs i) (sharing-taken b)
 
 -- ---- the colour list as it is filled from the front
 
--- what the colour of cell i is found from: the list of entities, and the colours of the cells before it
-pub record Earlier (list colours : List ℕ) (i : ℕ) : Type 0 where
-  pub cell : 3 * i + 3 ≤ length list
+-- the colours of the cells before cell i
+pub record Earlier (colours : List ℕ) (i : ℕ) : Type 0 where
   pub place : i < length colours
   pub below : i < mostCells
   pub low : (j : ℕ) → j < i → getD colours j 0 < mostCells
 
--- what colouring by one list asks
-pub record Listed (C : ℕ) (list colours : List ℕ) : Type 0 where
+-- what colouring by one list, whose numbers are below top, asks
+pub record Listed (C top : ℕ) (list colours : List ℕ) : Type 0 where
   pub cells : C ≤ mostCells
+  pub groups : top ≤ mostEdges
   pub entities : length list ≡ 3 * C
+  pub below : Below list top
   pub places : length colours ≡ C
+
+-- by the vertices, and by the edges
+module _ {s : Sizes} {vertices edges colours : List ℕ} (h : Colourable s vertices edges colours) {C top : ℕ} (c : C ≡ s .cells) where
+  pub listed-vertices : top ≡ s .vertices → Listed C top vertices colours
+  listed-vertices t =
+      rw (c, t) (record { cells = h .cells; groups = omega (arith, h .few-vertices); entities = h .vertex-list; below = h .vertices-below; places = h .places })
+
+  pub listed-edges : top ≡ s .edges → Listed C top edges colours
+  listed-edges t = rw (c, t) (record { cells = h .cells; groups = h .few-edges; entities = h .edge-list; below = h .edges-below; places = h .places })
 
 -- what is held before cell i: l with the colours of the first i cells stored
 pub record Filled (r : ℕ → ℕ → Bool) (l cs : List ℕ) (i : ℕ) : Type 0 where
@@ -195,18 +287,36 @@ module _ {r : ℕ → ℕ → Bool} {l cs : List ℕ} {i : ℕ} (h : Filled r l 
 
 -- ---- the list and the dimension
 
-module _ (s : Space) (C : ℕ) where
-  pub by-vertices : 0 < s .element .a → coloursTo (share (s .cellVertices)) C ≡ colourList s C
-  unfolding colourList
-  by-vertices a = rw (lt-ltb 0 (s .element .a) a)
+-- relations that agree on cells below n colour them the same
+pub colours-ext : (r r′ : ℕ → ℕ → Bool) (n : ℕ) → ((i j : ℕ) → i < n → j < i → r i j ≡ r′ i j) → coloursTo r n ≡ coloursTo r′ n
+unfolding coloursTo smallest taken
+colours-ext r r′ zero h = refl
+colours-ext r r′ (suc n) h =
+    let before : coloursTo r n ≡ coloursTo r′ n = colours-ext r r′ n (λ i j hi hj. h i j (omega arith) hj) in
+    rw before
+    (ap (λ (c : ℕ). coloursTo r′ n ++ (c ∷ []))
+    (least-ext n _ _ (λ c _. ap not (some-ext n _ _ (λ j hj. ap (λ (b : Bool). b and eqb (getD (coloursTo r′ n) j 0) c) (h n j (omega arith) hj))))))
 
-  pub by-edges : s .element .a ≤ 0 → 0 < s .element .b → coloursTo (share (s .cellEdges)) C ≡ colourList s C
-  unfolding colourList
-  by-edges a b = rw (le-ltb 0 (s .element .a) a, lt-ltb 0 (s .element .b) b)
+module _ (s : Space) (C : ℕ) (e : s .kinds ≡ triangles C) where
+  by-triangles : (l : List ℕ) → length l ≡ 3 * C → coloursTo (share l) C ≡ coloursTo (shareIn (s .kinds) l) C
+  by-triangles l long = rw e (colours-ext (share l) (shareIn (triangles C) l) C (λ i j hi hj. triangles-share C l long i j hi (omega arith)))
 
-  pub by-none : s .element .a ≤ 0 → s .element .b ≤ 0 → coloursTo eqb C ≡ colourList s C
+  -- the triangle's element leads
+  leads : leading s ≡ s .elements .triangle
+  unfolding elementOf
+  leads = ap (elementOf (s .elements)) (ap (λ (ks : List ℕ). getD (kindsPresent ks) 0 3) e ∙ triangles-first C)
+
+  pub by-vertices : length (s .cellVertices) ≡ 3 * C → 0 < s .elements .triangle .a → coloursTo (share (s .cellVertices)) C ≡ colourList s C
   unfolding colourList
-  by-none a b = rw (le-ltb 0 (s .element .a) a, le-ltb 0 (s .element .b) b)
+  by-vertices long a = rw (leads, lt-ltb 0 (s .elements .triangle .a) a) (by-triangles (s .cellVertices) long)
+
+  pub by-edges : length (s .cellEdges) ≡ 3 * C → s .elements .triangle .a ≤ 0 → 0 < s .elements .triangle .b → coloursTo (share (s .cellEdges)) C ≡ colourList s C
+  unfolding colourList
+  by-edges long a b = rw (leads, le-ltb 0 (s .elements .triangle .a) a, lt-ltb 0 (s .elements .triangle .b) b) (by-triangles (s .cellEdges) long)
+
+  pub by-none : s .elements .triangle .a ≤ 0 → s .elements .triangle .b ≤ 0 → coloursTo eqb C ≡ colourList s C
+  unfolding colourList
+  by-none a b = rw (leads, le-ltb 0 (s .elements .triangle .a) a, le-ltb 0 (s .elements .triangle .b) b)
 
 -- what counting asks of the list that is filled
 pub colours-low : (s : Space) (C : ℕ) (cs : List ℕ) → C ≤ mostCells → cs ≡ colourList s C → (i : ℕ) → i < length cs → getD cs i 0 < mostCells

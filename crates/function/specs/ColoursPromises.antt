@@ -8,18 +8,18 @@ use lib.ListN.{length, getD}
 use lib.Dec.{ltb, eqb}
 use borrow.Author.Tests.{eqb-true, eq-eqb}
 use Rattle.lists.specs.Bounded.{lt-or-le}
-use Rattle.grid.specs.Shape.{share}
+use Rattle.grid.specs.Cells.{own, part, shareIn}
 use Rattle.function.specs.Elements.{Space}
-use Rattle.function.specs.Colours.{sharing, colourList, colourCount}
-use Rattle.grid.specs.Facts.{share-turned}
+use Rattle.function.specs.Colours.{leading, sharing, colourList, colourCount}
+use Rattle.grid.specs.CellsFacts.{share-turned}
 use Rattle.function.specs.ColoursFacts.{length-colours, colour-le, colours-differ, count-le}
 
 pub sharing-sym : (s : Space) (i j : ℕ) → sharing s i j ≡ true → sharing s j i ≡ true
-sharing-sym s i j h = go (ltb 0 (s .element .a)) (ltb 0 (s .element .b)) h
+sharing-sym s i j h = go (ltb 0 (leading s .a)) (ltb 0 (leading s .b)) h
   where
-    go : (p q : Bool) → cond p (share (s .cellVertices)) (cond q (share (s .cellEdges)) eqb) i j ≡ true → cond p (share (s .cellVertices)) (cond q (share (s .cellEdges)) eqb) j i ≡ true
-    go true q e = share-turned (s .cellVertices) i j e
-    go false true e = share-turned (s .cellEdges) i j e
+    go : (p q : Bool) → cond p (shareIn (s .kinds) (s .cellVertices)) (cond q (shareIn (s .kinds) (s .cellEdges)) eqb) i j ≡ true → cond p (shareIn (s .kinds) (s .cellVertices)) (cond q (shareIn (s .kinds) (s .cellEdges)) eqb) j i ≡ true
+    go true q e = share-turned (part own (s .kinds) (s .cellVertices) i) (part own (s .kinds) (s .cellVertices) j) e
+    go false true e = share-turned (part own (s .kinds) (s .cellEdges) i) (part own (s .kinds) (s .cellEdges) j) e
     go false false e = eq-eqb j i (sym (eqb-true i j e))
 
 module _ (s : Space) (C : ℕ) where

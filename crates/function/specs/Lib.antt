@@ -1,4 +1,4 @@
--- The element and the function space (`Elements`), colours (`Colours`), with the examples of these (`Examples`). What is promised of the colours:
+-- The elements and the function space (`Elements`), colours (`Colours`), with the examples of these (`Examples`). What is promised of the colours:
 -- `ColoursPromises`. Laws for the proofs: `ColoursFacts`.
 pub mod Elements
 pub mod Colours

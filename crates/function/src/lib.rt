@@ -1,7 +1,7 @@
 // Elements on a mesh, and colours.
 use numbers::wide;
 ghost use mathlib.Core.Path.{_≡_};
-ghost use Rattle.function.specs.Elements.{dim, dimsRight};
+ghost use Rattle.function.specs.Elements.{dim, elementOf, dimsRight};
 
 mod colouring;
 
@@ -23,6 +23,21 @@ impl Element {
         ensures { λ r. ⌜ r ≡ dim self ⌝ }
     {
         3 * wide(self.a) + 3 * wide(self.b) + wide(self.c)
+    }
+}
+
+// An element for each kind of cell.
+pub struct Elements {
+    pub triangle: Element,
+    pub quad: Element,
+}
+
+impl Elements {
+    // The element on a cell of a kind.
+    pub fn of(self, kind: u8) -> Element
+        ensures { λ r. ⌜ r ≡ elementOf self kind ⌝ }
+    {
+        if kind == 3 { self.triangle } else { self.quad }
     }
 }
 

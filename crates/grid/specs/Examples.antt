@@ -2,8 +2,8 @@
 use mathlib.Core.List.{[], _∷_}
 use lib.ListN.{replicate}
 use Rattle.lists.specs.Examples.{opened-lists}
-use Rattle.grid.specs.Shape.{has, share, sameTwo}
-use Rattle.grid.specs.Mesh.{Mesh, distinct, sameVertices, placesAgree, edgeRule, cellsRight, verticesRight, edgesRight}
+use Rattle.grid.specs.Cells.{before, part, has, share, distinct, sameTwo}
+use Rattle.grid.specs.Mesh.{Mesh, triangles, cellsOf, kindsPresent, corners, sides, placesAgree, edgeRule, cellsRight, kindsRight, vertexPlaces, verticesRight, edgesRight}
 use Rattle.numbers.specs.Ranges.{allBelow}
 
 -- M: C = 3, V = 7, E = 8, cells (0,1,2), (1,3,2), (4,5,6), edges (0,1,2), (3,0,4), (5,6,7)
@@ -13,6 +13,7 @@ M =
       cells = 3;
       vertices = 7;
       edges = 8;
+      kinds = triangles 3;
       cellVertices = 0 ∷ 1 ∷ 2 ∷ 1 ∷ 3 ∷ 2 ∷ 4 ∷ 5 ∷ 6 ∷ [];
       cellEdges = 0 ∷ 1 ∷ 2 ∷ 3 ∷ 0 ∷ 4 ∷ 5 ∷ 6 ∷ 7 ∷ [];
     }
@@ -24,6 +25,7 @@ M7-turned =
       cells = 2;
       vertices = 3;
       edges = 3;
+      kinds = triangles 2;
       cellVertices = 0 ∷ 1 ∷ 2 ∷ 1 ∷ 2 ∷ 0 ∷ [];
       cellEdges = 0 ∷ 1 ∷ 2 ∷ 1 ∷ 2 ∷ 0 ∷ [];
     }
@@ -35,6 +37,7 @@ M7-twice =
       cells = 2;
       vertices = 3;
       edges = 3;
+      kinds = triangles 2;
       cellVertices = 0 ∷ 1 ∷ 2 ∷ 0 ∷ 1 ∷ 2 ∷ [];
       cellEdges = 0 ∷ 1 ∷ 2 ∷ 0 ∷ 1 ∷ 2 ∷ [];
     }
@@ -46,11 +49,12 @@ M8-large =
       cells = 2049;
       vertices = 3;
       edges = 3;
+      kinds = triangles 2049;
       cellVertices = replicate 6147 0;
       cellEdges = replicate 6147 0;
     }
 
 -- opens the definitions of this crate and of those below it
 unfoldable pub opened-grid : Unit {0}
-unfolding opened-lists has share sameTwo allBelow distinct sameVertices placesAgree edgeRule cellsRight verticesRight edgesRight
+unfolding opened-lists cellsOf kindsPresent before part has share distinct sameTwo allBelow corners sides placesAgree edgeRule cellsRight kindsRight vertexPlaces verticesRight edgesRight
 opened-grid = tt

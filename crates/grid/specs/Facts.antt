@@ -1,19 +1,21 @@
--- What holds of a mesh that checks 1 to 3 pass (`Fine`), and the laws of cells that share an entity. Assumes nothing.
-use Prim.Native.Nat.{ℕ, zero, suc, _+_, _*_, _/_, _%_, _<_, _≤_}
-use native.Mathlib.Nat.{add-comm}
+-- What holds of a mesh that checks 1, 26, 2 and 3 pass (`Fine`): its lists, and that the vertices of a cell differ and so do its edges; and of three
+-- numbers a cell in a flat list. Assumes nothing.
+use Prim.Native.Nat.{ℕ, zero, suc, _+_, _*_, _<_, _≤_}
 use native.Mathlib.Omega.{arith}
-use mathlib.Core.Bool.{Bool, true, false, cond}
-use mathlib.Core.Path.{_≡_, refl, sym, ap, ap₂, subst, _∙_}
+use mathlib.Core.Bool.{Bool, true, not}
+use mathlib.Core.Path.{_≡_, refl, sym, ap, ap₂, _∙_}
 use mathlib.Core.Logic.{_⊎_, inl, inr, ⊎-elim}
 use mathlib.Core.List.{List, [], _∷_}
-use lib.ListN.{length, getD}
-use lib.Dec.{eqb}
-use borrow.Author.Tests.{lt-ltb, eqb-true, eqb-false, eq-eqb, not-true}
-use Rattle.lists.specs.Bool.{_and_, _or_, iff, iff-sides, every, every-at, and-left, and-right, or-cases, or-no-left, or-no-right}
-use Rattle.lists.specs.Bounded.{all-at, all-of, some-at, some-which, lt-or-le}
+use lib.ListN.{length, getD, replicate, length-replicate, getD-replicate}
+use lib.Dec.{eqb, ltb}
+use borrow.Author.Tests.{lt-ltb, ltb-true, eqb-true, eqb-false, eq-eqb, not-true}
+use Rattle.lists.specs.Bool.{_and_, _or_, iff-sides, true≢false, every, every-at, and-left, and-right, and-both, or-cases, or-left, or-right}
+use Rattle.lists.specs.Bounded.{all, all-at, all-of, lt-or-le}
 use Rattle.lists.specs.Refusals.{refusal, refusal-at}
-use Rattle.grid.specs.Shape.{entity, has, share, firstEnd, secondEnd, sameTwo}
-use Rattle.grid.specs.Mesh.{mostCells, mostVertices, mostEdges, Mesh, distinct, sameVertices, placesAgree, edgeRule, cellsRight, verticesRight, edgesRight, meshChecks}
+use Rattle.grid.specs.Cells.{before, part, own, shareIn, distinct, endsOf, sameTwo, share as share-number}
+use Rattle.grid.specs.CellsFacts.{Shaped, before-same, length-part, getD-part, has-place as number-place, has-at as number-at}
+use Rattle.grid.specs.Shape.{entity, triple, has, share}
+use Rattle.grid.specs.Mesh.{mostCells, mostVertices, mostEdges, Mesh, triangles, kind, corners, sides, firstVertex, secondVertex, placesAgree, edgeRule, cellsRight, kindsRight, vertexPlaces, verticesRight, edgesRight, meshChecks}
 use Rattle.numbers.specs.Ranges.{within, within-low, within-high, allBelow, below-at}
 
 -- ---- what a check that passes says
@@ -24,76 +26,101 @@ unfolding allBelow
 below-most l v d e =
     all-of (length l) _ (λ k lk. lt-ltb (getD l k 0) mostVertices (omega (arith, within-high 3 mostVertices v (every-at _ e 0), below-at l v (every-at _ e 1) k lk)))
 
+-- check 26: there is a kind for each cell, and it is 3
+pub kinds-long : (m : Mesh) → kindsRight m ≡ true → length (m .kinds) ≡ m .cells
+unfolding kindsRight
+kinds-long m e = eqb-true _ _ (and-left _ _ e)
+
+pub triangle : (m : Mesh) → kindsRight m ≡ true → (i : ℕ) → i < m .cells → kind m i ≡ 3
+unfolding kindsRight
+triangle m e i h = eqb-true _ _ (all-at (length (m .kinds)) (λ i. eqb (kind m i) 3) (and-right (eqb (length (m .kinds)) (m .cells)) _ e) i (omega (arith, kinds-long m e)))
+
+pub triangles-right : (m : Mesh) → m .kinds ≡ triangles (m .cells) → kindsRight m ≡ true
+unfolding kindsRight
+triangles-right m e =
+    let long : length (m .kinds) ≡ m .cells = ap length e ∙ length-replicate (m .cells) 3 in
+    and-both _ _ (eq-eqb _ _ long)
+    (all-of _ _ (λ i h. eq-eqb _ 3 (ap (λ (ks : List ℕ). getD ks i 0) e ∙ getD-replicate (m .cells) i 3 0 (omega (arith, long)))))
+
+pub all-triangles : (m : Mesh) → kindsRight m ≡ true → m .kinds ≡ triangles (m .cells)
+all-triangles m e = same-number (m .kinds) 3 (λ i h. triangle m e i (omega (arith, kinds-long m e))) ∙ ap triangles (kinds-long m e)
+  where
+    same-number : (l : List ℕ) (n : ℕ) → ((i : ℕ) → i < length l → getD l i 0 ≡ n) → l ≡ replicate (length l) n
+    same-number [] n h = refl
+    same-number (x ∷ l) n h = ap₂ (λ (y : ℕ) (r : List ℕ). y ∷ r) (h 0 (omega arith)) (same-number l n (λ i b. h (suc i) (omega arith)))
+
+-- the later checks as the code reads them, of as many cells as there are kinds
+module _ (m : Mesh) (k : kindsRight m ≡ true) {b : Bool} where
+  pub places-by : b ≡ eqb (length (m .cellVertices)) (before own (m .kinds) (length (m .kinds))) → b ≡ vertexPlaces m
+  unfolding vertexPlaces
+  places-by e = e ∙ ap (λ (n : ℕ). eqb (length (m .cellVertices)) (before own (m .kinds) n)) (kinds-long m k)
+
+  pub vertices-by : b ≡ every (within 3 mostVertices (m .vertices) ∷ allBelow (m .cellVertices) (m .vertices) ∷ all (length (m .kinds)) (λ i. distinct (corners m i)) ∷ []) → b ≡ verticesRight m
+  unfolding verticesRight
+  vertices-by e =
+      e ∙ ap (λ (n : ℕ). every (within 3 mostVertices (m .vertices) ∷ allBelow (m .cellVertices) (m .vertices) ∷ all n (λ i. distinct (corners m i)) ∷ [])) (kinds-long m k)
+
+-- what they ask of the lists
+pub shaped : (m : Mesh) → cellsRight m ≡ true → kindsRight m ≡ true → vertexPlaces m ≡ true → Shaped (m .kinds) (m .cellVertices)
+unfolding cellsRight vertexPlaces
+shaped m one kinds places =
+    let long = kinds-long m kinds in
+    record {
+      few = omega (arith, within-high 1 mostCells (m .cells) one, long);
+      kinds = λ i h. inl (triangle m kinds i (omega (arith, long)));
+      long = eqb-true _ _ places ∙ ap (before own (m .kinds)) (sym long);
+    }
+
+pub vertices-below : (m : Mesh) → verticesRight m ≡ true → allBelow (m .cellVertices) mostVertices ≡ true
+unfolding verticesRight
+vertices-below m e = below-most (m .cellVertices) (m .vertices) (all (m .cells) (λ i. distinct (corners m i))) e
+
 pub record Fine (m : Mesh) : Type 0 where
   pub one : 1 ≤ m .cells
   pub fewCells : m .cells ≤ mostCells
   pub fewVertices : m .vertices ≤ mostVertices
   pub fewEdges : m .edges ≤ mostEdges
-  pub vertexPlaces : length (m .cellVertices) ≡ 3 * m .cells
-  pub edgePlaces : length (m .cellEdges) ≡ 3 * m .cells
-  pub vertexBelow : (k : ℕ) → k < 3 * m .cells → getD (m .cellVertices) k 0 < m .vertices
-  pub edgeBelow : (k : ℕ) → k < 3 * m .cells → getD (m .cellEdges) k 0 < m .edges
-  pub apart : (i : ℕ) → i < m .cells → distinct (m .cellVertices) i ≡ true
-  pub rule : (k l : ℕ) → k < 3 * m .cells → l < 3 * m .cells → placesAgree (m .cellVertices) (m .cellEdges) k l ≡ true
+  pub each : (i : ℕ) → i < m .cells → kind m i ≡ 3
+  pub kinds : m .kinds ≡ triangles (m .cells)
+  pub vertexPlaces : length (m .cellVertices) ≡ before own (m .kinds) (m .cells)
+  pub edgePlaces : length (m .cellEdges) ≡ before own (m .kinds) (m .cells)
+  pub vertexBelow : (k : ℕ) → k < length (m .cellVertices) → getD (m .cellVertices) k 0 < m .vertices
+  pub edgeBelow : (k : ℕ) → k < length (m .cellEdges) → getD (m .cellEdges) k 0 < m .edges
+  pub apart : (i : ℕ) → i < m .cells → distinct (corners m i) ≡ true
+  pub rule : (i e j g : ℕ) → i < m .cells → e < kind m i → j < m .cells → g < kind m j → placesAgree m i e j g ≡ true
 
 pub fine : (m : Mesh) → refusal (meshChecks m) ≡ 0 → Fine m
-unfolding cellsRight verticesRight edgesRight edgeRule
+unfolding cellsRight vertexPlaces verticesRight edgesRight edgeRule
 fine m h =
     let cells : cellsRight m ≡ true = refusal-at (meshChecks m) h refl 0 in
-    let vertices : verticesRight m ≡ true = refusal-at (meshChecks m) h refl 1 in
-    let edges : edgesRight m ≡ true = refusal-at (meshChecks m) h refl 2 in
-    let vertexPlaces : length (m .cellVertices) ≡ 3 * m .cells = eqb-true _ _ (and-right _ _ cells) in
-    let edgePlaces : length (m .cellEdges) ≡ 3 * m .cells = eqb-true _ _ (every-at _ edges 1) in
+    let kinds : kindsRight m ≡ true = refusal-at (meshChecks m) h refl 1 in
+    let places : vertexPlaces m ≡ true = refusal-at (meshChecks m) h refl 2 in
+    let vertices : verticesRight m ≡ true = refusal-at (meshChecks m) h refl 3 in
+    let edges : edgesRight m ≡ true = refusal-at (meshChecks m) h refl 4 in
     record {
-      one = within-low _ _ _ (and-left _ _ cells);
-      fewCells = within-high _ _ _ (and-left _ _ cells);
+      one = within-low _ _ _ cells;
+      fewCells = within-high _ _ _ cells;
       fewVertices = within-high _ _ _ (every-at _ vertices 0);
       fewEdges = within-high _ _ _ (every-at _ edges 0);
-      vertexPlaces = vertexPlaces;
-      edgePlaces = edgePlaces;
-      vertexBelow = λ k l. below-at _ _ (every-at _ vertices 1) k (omega arith);
-      edgeBelow = λ k l. below-at _ _ (every-at _ edges 2) k (omega arith);
+      each = triangle m kinds;
+      kinds = all-triangles m kinds;
+      vertexPlaces = eqb-true _ _ places;
+      edgePlaces = eqb-true _ _ (every-at _ edges 1);
+      vertexBelow = below-at _ _ (every-at _ vertices 1);
+      edgeBelow = below-at _ _ (every-at _ edges 2);
       apart = all-at _ _ (every-at _ vertices 2);
-      rule = λ k l lk ll. all-at _ _ (all-at _ _ (every-at _ edges 3) k (omega arith)) l (omega arith);
+      rule = λ i e j g hi he hj hg. all-at _ _ (all-at _ _ (all-at _ _ (all-at _ _ (every-at _ edges 3) i hi) e he) j hj) g hg;
     }
 
--- ---- the three vertices of a cell differ, and so do its three edges
+-- ---- the vertices of a cell differ, and so do its edges
 
-three : (p : ℕ) → p < 3 → (p ≡ 0) ⊎ ((p ≡ 1) ⊎ (p ≡ 2))
-three p l = ⊎-elim (λ a. inl (omega arith)) (λ a. ⊎-elim (λ b. inr (inl (omega arith))) (λ b. inr (inr (omega arith))) (lt-or-le p 2)) (lt-or-le p 1)
-
--- three numbers at 0, 1, 2, no two of which are equal
-differ : (f : ℕ → ℕ) → (f 0 ≡ f 1 → ⊥) → (f 0 ≡ f 2 → ⊥) → (f 1 ≡ f 2 → ⊥) → (p q : ℕ) → p < 3 → q < 3 → f p ≡ f q → p ≡ q
-differ f a b c p q lp lq e = go (three p lp) (three q lq)
-  where
-    go : (p ≡ 0) ⊎ ((p ≡ 1) ⊎ (p ≡ 2)) → (q ≡ 0) ⊎ ((q ≡ 1) ⊎ (q ≡ 2)) → p ≡ q
-    go (inl x) (inl y) = x ∙ sym y
-    go (inl x) (inr (inl y)) = absurd (a (ap f (sym x) ∙ e ∙ ap f y))
-    go (inl x) (inr (inr y)) = absurd (b (ap f (sym x) ∙ e ∙ ap f y))
-    go (inr (inl x)) (inl y) = absurd (a (ap f (sym y) ∙ sym e ∙ ap f x))
-    go (inr (inl x)) (inr (inl y)) = x ∙ sym y
-    go (inr (inl x)) (inr (inr y)) = absurd (c (ap f (sym x) ∙ e ∙ ap f y))
-    go (inr (inr x)) (inl y) = absurd (b (ap f (sym y) ∙ sym e ∙ ap f x))
-    go (inr (inr x)) (inr (inl y)) = absurd (c (ap f (sym y) ∙ sym e ∙ ap f x))
-    go (inr (inr x)) (inr (inr y)) = x ∙ sym y
-
-pub vertices-differ : (vs : List ℕ) (i : ℕ) → distinct vs i ≡ true → (p q : ℕ) → p < 3 → q < 3 → entity vs i p ≡ entity vs i q → p ≡ q
+pub vertices-differ : (xs : List ℕ) → distinct xs ≡ true → (p q : ℕ) → p < length xs → q < length xs → getD xs p 0 ≡ getD xs q 0 → p ≡ q
 unfolding distinct
-vertices-differ vs i h =
-    differ (λ p. entity vs i p) (eqb-false _ _ (or-no-left a b (or-no-left (a or b) c none))) (eqb-false _ _ (or-no-right a b (or-no-left (a or b) c none)))
-    (eqb-false _ _ (or-no-right (a or b) c none))
+vertices-differ xs h p q lp lq e = ⊎-elim (λ l. absurd (apart p q l lq e)) (λ l. ⊎-elim (λ k. absurd (apart q p k lp (sym e))) (λ k. omega arith) (lt-or-le q p)) (lt-or-le p q)
   where
-    a : Bool
-    a = eqb (entity vs i 0) (entity vs i 1)
-
-    b : Bool
-    b = eqb (entity vs i 0) (entity vs i 2)
-
-    c : Bool
-    c = eqb (entity vs i 1) (entity vs i 2)
-
-    none : (a or b) or c ≡ false
-    none = not-true ((a or b) or c) h
+    apart : (p q : ℕ) → p < q → q < length xs → getD xs p 0 ≡ getD xs q 0 → ⊥
+    apart p q l lq e =
+        eqb-false _ _ (not-true _ (all-at q (λ p. not (eqb (getD xs p 0) (getD xs q 0))) (all-at (length xs) (λ q. all q (λ p. not (eqb (getD xs p 0) (getD xs q 0)))) h q lq) p l)) e
 
 pub same-two-cases : (a b c d : ℕ) → sameTwo a b c d ≡ true → ((a ≡ c) × (b ≡ d)) ⊎ ((a ≡ d) × (b ≡ c))
 unfolding sameTwo
@@ -102,85 +129,126 @@ same-two-cases a b c d h =
     (λ e. inr (eqb-true a d (and-left (eqb a d) (eqb b c) e), eqb-true b c (and-right (eqb a d) (eqb b c) e)))
     (or-cases (eqb a c and eqb b d) (eqb a d and eqb b c) h)
 
--- the ends of a local edge are two of the three places, and their sum tells it from the others
-choice-below : (b : Bool) (x y n : ℕ) → x < n → y < n → cond b x y < n
-choice-below true x y n lx ly = lx
-choice-below false x y n lx ly = ly
+pub same-two-of : (a b c d : ℕ) → ((a ≡ c) × (b ≡ d)) ⊎ ((a ≡ d) × (b ≡ c)) → sameTwo a b c d ≡ true
+unfolding sameTwo
+same-two-of a b c d h =
+    ⊎-elim (λ w. or-left _ _ (and-both _ _ (eq-eqb a c (w .0)) (eq-eqb b d (w .1)))) (λ w. or-right _ _ (and-both _ _ (eq-eqb a d (w .0)) (eq-eqb b c (w .1)))) h
 
-pub first-below : (p : ℕ) → firstEnd p < 3
-first-below p = choice-below (eqb p 0) 1 0 3 (omega arith) (omega arith)
+-- the ends of a local edge are places of its cell, and no other edge has the same two: computed for both kinds
+ends-right : ℕ → ℕ → Bool
+ends-right n p = ltb (endsOf n p .first) n and ltb (endsOf n p .second) n
 
-pub second-below : (p : ℕ) → secondEnd p < 3
-second-below p = choice-below (eqb p 2) 1 2 3 (omega arith) (omega arith)
+ends-apart : ℕ → ℕ → ℕ → Bool
+ends-apart n p q = not (sameTwo (endsOf n p .first) (endsOf n p .second) (endsOf n q .first) (endsOf n q .second)) or eqb p q
 
-ends-sum : (p : ℕ) → p < 3 → firstEnd p + secondEnd p + p ≡ 3
-ends-sum zero l = refl
-ends-sum (suc zero) l = refl
-ends-sum (suc (suc zero)) l = refl
-ends-sum (suc (suc (suc p))) l = absurd (omega arith)
+ends-computed : (all 3 (λ p. ends-right 3 p and all 3 (λ q. ends-apart 3 p q)) ≡ true) × (all 4 (λ p. ends-right 4 p and all 4 (λ q. ends-apart 4 p q)) ≡ true)
+unfolding all _and_ _or_ sameTwo ends-right ends-apart
+ends-computed = (refl, refl)
 
--- place 3i + p is local edge p of cell i
-place-at : (vs es : List ℕ) (i p j q : ℕ) → p < 3 → q < 3
-    → placesAgree vs es (3 * i + p) (3 * j + q)
-    ≡ iff (eqb (entity es i p) (entity es j q)) (sameTwo (entity vs i (firstEnd p)) (entity vs i (secondEnd p)) (entity vs j (firstEnd q)) (entity vs j (secondEnd q)))
-unfolding placesAgree sameVertices
-place-at vs es i p j q lp lq =
-    let i′ : (3 * i + p) / 3 ≡ i = omega arith in
-    let p′ : (3 * i + p) % 3 ≡ p = omega arith in
-    let j′ : (3 * j + q) / 3 ≡ j = omega arith in
-    let q′ : (3 * j + q) % 3 ≡ q = omega arith in
-    rw (i′, p′, j′, q′)
+module _ (n : ℕ) (h : (n ≡ 3) ⊎ (n ≡ 4)) (p : ℕ) (lp : p < n) where
+  ends-all : ends-right n p and all n (λ q. ends-apart n p q) ≡ true
+  ends-all =
+      ⊎-elim (λ e. rw e (all-at 3 _ (ends-computed .0) p (omega arith))) (λ e. rw e (all-at 4 _ (ends-computed .1) p (omega arith))) h
 
-module _ (m : Mesh) (h : Fine m) (i : ℕ) (l : i < m .cells) (p q : ℕ) (lp : p < 3) (lq : q < 3) where
-  vertex : ℕ → ℕ
-  vertex k = entity (m .cellVertices) i k
+  pub first-below : endsOf n p .first < n
+  unfolding ends-right
+  first-below = ltb-true _ _ (and-left _ _ (and-left _ _ ends-all))
 
-  same-ends : entity (m .cellEdges) i p ≡ entity (m .cellEdges) i q → sameTwo (vertex (firstEnd p)) (vertex (secondEnd p)) (vertex (firstEnd q)) (vertex (secondEnd q)) ≡ true
-  unfolding vertex
-  same-ends e =
-      sym (iff-sides (eqb (entity (m .cellEdges) i p) (entity (m .cellEdges) i q)) _ (sym (place-at (m .cellVertices) (m .cellEdges) i p i q lp lq) ∙ h .rule (3 * i + p) (3 * i + q) (omega arith) (omega arith)))
-      ∙ eq-eqb (entity (m .cellEdges) i p) (entity (m .cellEdges) i q) e
+  pub second-below : endsOf n p .second < n
+  unfolding ends-right
+  second-below = ltb-true _ _ (and-right (ltb (endsOf n p .first) n) _ (and-left _ _ ends-all))
 
-  same-place : (x y : ℕ) → x < 3 → y < 3 → vertex x ≡ vertex y → x ≡ y
-  unfolding vertex
-  same-place = vertices-differ (m .cellVertices) i (h .apart i l)
+  pub ends-differ : (q : ℕ) → q < n → sameTwo (endsOf n p .first) (endsOf n p .second) (endsOf n q .first) (endsOf n q .second) ≡ true → p ≡ q
+  unfolding ends-apart
+  ends-differ q lq e =
+      ⊎-elim (λ t. absurd (true≢false (sym e ∙ not-true _ t))) (λ t. eqb-true p q t)
+      (or-cases _ _ (all-at n (λ q. ends-apart n p q) (and-right (ends-right n p) _ ends-all) q lq))
 
-  pub edges-differ : entity (m .cellEdges) i p ≡ entity (m .cellEdges) i q → p ≡ q
-  edges-differ e =
-      let sum : firstEnd p + secondEnd p ≡ firstEnd q + secondEnd q =
-      ⊎-elim (λ w. ap₂ _+_ (same-place _ _ (first-below p) (first-below q) (w .0)) (same-place _ _ (second-below p) (second-below q) (w .1)))
-      (λ w. ap₂ _+_ (same-place _ _ (first-below p) (second-below q) (w .0)) (same-place _ _ (second-below p) (first-below q) (w .1))
-      ∙ add-comm (secondEnd q) (firstEnd q))
-      (same-two-cases _ _ _ _ (same-ends e)) in
-      omega (arith, ends-sum p lp, ends-sum q lq)
+module _ (m : Mesh) (h : Fine m) (i : ℕ) (l : i < m .cells) where
+  -- a cell has as many vertices and edges as its kind says
+  pub corners-length : length (corners m i) ≡ kind m i
+  unfolding corners
+  corners-length = length-part own (m .kinds) (m .cellVertices) (m .cells) i (h .vertexPlaces) l
 
--- ---- cells that share an entity
+  pub sides-length : length (sides m i) ≡ kind m i
+  unfolding sides
+  sides-length = length-part own (m .kinds) (m .cellEdges) (m .cells) i (h .edgePlaces) l
+
+  same-place : (x y : ℕ) → x < kind m i → y < kind m i → getD (corners m i) x 0 ≡ getD (corners m i) y 0 → x ≡ y
+  same-place x y lx ly = vertices-differ (corners m i) (h .apart i l) x y (omega (arith, corners-length)) (omega (arith, corners-length))
+
+  pub edges-differ : (p q : ℕ) → p < kind m i → q < kind m i → getD (sides m i) p 0 ≡ getD (sides m i) q 0 → p ≡ q
+  unfolding placesAgree
+  edges-differ p q lp lq e =
+      let n : ℕ = kind m i in
+      let ends : sameTwo (firstVertex m i p) (secondVertex m i p) (firstVertex m i q) (secondVertex m i q) ≡ true =
+      sym (iff-sides _ _ (h .rule i p i q l lp l lq)) ∙ eq-eqb _ _ e in
+      let first : (p : ℕ) → p < n → endsOf n p .first < n = λ p lp. first-below n (inl (h .each i l)) p lp in
+      let second : (p : ℕ) → p < n → endsOf n p .second < n = λ p lp. second-below n (inl (h .each i l)) p lp in
+      ends-differ n (inl (h .each i l)) p lp q lq
+      (same-two-of _ _ _ _
+      (⊎-elim
+      (λ w. inl (same-place _ _ (first p lp) (first q lq) (w .0), same-place _ _ (second p lp) (second q lq) (w .1)))
+      (λ w. inr (same-place _ _ (first p lp) (second q lq) (w .0), same-place _ _ (second p lp) (first q lq) (w .1)))
+      (same-two-cases _ _ _ _ ends)))
+
+-- ---- three numbers a cell in a flat list
+
+triple-at : (l : List ℕ) (i p : ℕ) → p < 3 → getD (triple l i) p 0 ≡ entity l i p
+triple-at l i zero h = refl
+triple-at l i (suc zero) h = refl
+triple-at l i (suc (suc zero)) h = refl
+triple-at l i (suc (suc (suc p))) h = absurd (omega arith)
 
 -- x is at a place of cell i, and what is at a place is one of the three
 pub has-place : (l : List ℕ) (i x : ℕ) → has l i x ≡ true → (p : ℕ) × (p < 3) × (entity l i p ≡ x)
-unfolding has
-has-place l i x h =
-    let w : (p : ℕ) × (p < 3) × (eqb (entity l i p) x ≡ true) = some-which 3 (λ p. eqb (entity l i p) x) h in
-    (w .0, w .1, eqb-true (entity l i (w .0)) x (w .2))
+has-place l i x h = let w = number-place (triple l i) x h in (w .0, w .1, sym (triple-at l i (w .0) (w .1)) ∙ w .2)
 
 pub has-at : (l : List ℕ) (i p x : ℕ) → p < 3 → entity l i p ≡ x → has l i x ≡ true
-unfolding has
-has-at l i p x h e = some-at 3 (λ p. eqb (entity l i p) x) p h (eq-eqb (entity l i p) x e)
+has-at l i p x h e = number-at (triple l i) p x h (triple-at l i p h ∙ e)
 
--- two cells share an entity exactly where both have one
-pub share-which : (l : List ℕ) (i j : ℕ) → share l i j ≡ true → (x : ℕ) × (has l i x ≡ true) × (has l j x ≡ true)
-unfolding share
-share-which l i j h =
-    let w : (p : ℕ) × (p < 3) × (has l j (entity l i p) ≡ true) = some-which 3 (λ p. has l j (entity l i p)) h in
-    (entity l i (w .0), has-at l i (w .0) (entity l i (w .0)) (w .1) refl, w .2)
+-- ---- triangles alone have their numbers so
 
-pub share-at : (l : List ℕ) (i j x : ℕ) → has l i x ≡ true → has l j x ≡ true → share l i j ≡ true
-unfolding share
-share-at l i j x hi hj =
-    let w : (p : ℕ) × (p < 3) × (entity l i p ≡ x) = has-place l i x hi in
-    some-at 3 (λ p. has l j (entity l i p)) (w .0) (w .1) (subst (λ (y : ℕ). has l j y ≡ true) (sym (w .2)) hj)
+three : (xs : List ℕ) → length xs ≡ 3 → xs ≡ getD xs 0 0 ∷ getD xs 1 0 ∷ getD xs 2 0 ∷ []
+three [] e = absurd (omega arith)
+three (a ∷ []) e = absurd (omega arith)
+three (a ∷ b ∷ []) e = absurd (omega arith)
+three (a ∷ b ∷ c ∷ []) e = refl
+three (a ∷ b ∷ c ∷ d ∷ xs) e = absurd (omega arith)
 
-pub share-turned : (l : List ℕ) (i j : ℕ) → share l i j ≡ true → share l j i ≡ true
-share-turned l i j h =
-    let w : (x : ℕ) × (has l i x ≡ true) × (has l j x ≡ true) = share-which l i j h in
-    share-at l j i (w .0) (w .2) (w .1)
+module _ (C : ℕ) (l : List ℕ) (long : length l ≡ 3 * C) where
+  pub triangle-places : before own (triangles C) C ≡ length l
+  triangle-places = omega (arith, before-same own C 3 C (omega arith), long)
+
+  starts : (i : ℕ) → i ≤ C → before own (triangles C) i ≡ 3 * i
+  starts i h = omega (arith, before-same own C 3 i h)
+
+  pub triangle-part : (i : ℕ) → i < C → part own (triangles C) l i ≡ triple l i
+  triangle-part i h =
+      let kind-is : getD (triangles C) i 0 ≡ 3 = getD-replicate C i 3 0 h in
+      let at : (p : ℕ) → p < 3 → getD (part own (triangles C) l i) p 0 ≡ entity l i p =
+      λ p lp. getD-part own (triangles C) l i p (omega (arith, kind-is)) ∙ ap (λ (k : ℕ). getD l (k + p) 0) (starts i (omega arith)) in
+      three _ (length-part own (triangles C) l C i (sym triangle-places) h ∙ kind-is)
+      ∙ rw (at 0 (omega arith), at 1 (omega arith), at 2 (omega arith))
+
+  pub triangles-share : (i j : ℕ) → i < C → j < C → share l i j ≡ shareIn (triangles C) l i j
+  triangles-share i j hi hj = ap₂ share-number (sym (triangle-part i hi)) (sym (triangle-part j hj))
+
+-- so have the cells of a mesh of triangles
+pub corners-triple : (m : Mesh) → m .kinds ≡ triangles (m .cells) → length (m .cellVertices) ≡ 3 * m .cells → (i : ℕ) → i < m .cells → corners m i ≡ triple (m .cellVertices) i
+unfolding corners
+corners-triple m e long i h = ap (λ (ks : List ℕ). part own ks (m .cellVertices) i) e ∙ triangle-part (m .cells) (m .cellVertices) long i h
+
+-- the lists of a mesh that the checks pass
+module _ (m : Mesh) (h : Fine m) where
+  places-are : before own (m .kinds) (m .cells) ≡ 3 * m .cells
+  places-are = ap (λ (ks : List ℕ). before own ks (m .cells)) (h .kinds) ∙ omega (arith, before-same own (m .cells) 3 (m .cells) (omega arith))
+
+  pub vertex-thirds : length (m .cellVertices) ≡ 3 * m .cells
+  vertex-thirds = h .vertexPlaces ∙ places-are
+
+  pub edge-thirds : length (m .cellEdges) ≡ 3 * m .cells
+  edge-thirds = h .edgePlaces ∙ places-are
+
+  pub corners-are : (i : ℕ) → i < m .cells → corners m i ≡ triple (m .cellVertices) i
+  corners-are = corners-triple m (h .kinds) vertex-thirds

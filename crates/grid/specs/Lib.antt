@@ -1,7 +1,11 @@
--- The shape of a cell (`Shape`), the mesh with checks 1 to 3 (`Mesh`), what holds of a mesh that the checks pass, and
--- of cells that share an entity (`Facts`), the edge rule by keys (`EdgeRule`), and the meshes of the examples (`Examples`).
+-- Cells as lists of numbers, and where each begins in a flat list (`Cells`), the mesh with checks 1, 26, 2 and 3 (`Mesh`), and the meshes of the examples
+-- (`Examples`). Three numbers a cell in a flat list, as code reads triangles (`Shape`). Laws: of parts of a flat list and of cells that share a number (`CellsFacts`), of
+-- a mesh that the checks pass (`Facts`), of the kinds of its cells (`KindsFacts`), of the edge rule by keys (`EdgeRule`).
+pub mod Cells
+pub mod CellsFacts
 pub mod Shape
 pub mod Mesh
 pub mod Facts
+pub mod KindsFacts
 pub mod EdgeRule
 pub mod Examples

@@ -1,44 +1,38 @@
 // The edge rule: two edge places have the same number exactly when they join the same two vertices.
+use crate::MOST_CELLS;
 use crate::MOST_EDGES;
-use crate::MOST_VERTICES;
-use crate::shape::first_end;
-use crate::shape::second_end;
+use crate::shape::KEY_STEP;
+use crate::shape::MOST_CORNERS;
+use crate::shape::end_of;
+use crate::shape::write_cell_keys;
 use numbers::wide;
 ghost use mathlib.Core.Path.{_≡_};
-ghost use Prim.Native.Nat.{_+_, _*_, _/_, _<_, _≤_};
+ghost use Prim.Native.Nat.{_<_, _≤_};
 ghost use mathlib.Core.Bool.{true};
 ghost use lib.ListN.{length};
-ghost use Rattle.grid.specs.Mesh.{mostVertices, mostEdges, edgeRule};
+ghost use Rattle.grid.specs.Cells.{before, own};
+ghost use Rattle.grid.specs.CellsFacts.{Shaped};
+ghost use Rattle.grid.specs.Mesh.{mostVertices, mostEdges};
 ghost use Rattle.numbers.specs.Ranges.{allBelow};
-ghost use Rattle.grid.specs.EdgeRule.{pairKey, edgeKey, hasKey, mayHave, Numbered};
-
-// The key of two vertices is the smaller times this, plus the other.
-const KEY_STEP: u32 = MOST_VERTICES as u32;
+ghost use Rattle.grid.specs.EdgeRule.{edgeKeys, keysAgree, hasKey, mayHave, Numbered};
 
 // Above every key.
 const NO_KEY: u32 = KEY_STEP * KEY_STEP;
 
-// The key of two vertices: the same in either order, and another for any other two.
-fn pair_key(a: u32, b: u32) -> u32
-    requires { ⌜ (a < mostVertices) × (b < mostVertices) ⌝ }
-    ensures { λ r. ⌜ r ≡ pairKey a b ⌝ }
+// Writes the key of each edge place, in the order of the edge list.
+fn write_keys(kinds: &[u8], vertices: &[u32], keys: &mut [u32])
+    requires { ⌜ Shaped (now kinds) (now vertices) × (allBelow (now vertices) mostVertices ≡ true) ⌝ }
+    requires { ⌜ length (now keys) ≡ length (now vertices) ⌝ }
+    ensures { λ _. ⌜ now (keys .exit) ≡ edgeKeys (now (kinds .entry)) (now (vertices .entry)) (length (now (kinds .entry))) ⌝ }
 {
-    if a < b {
-        KEY_STEP * a + b
-    } else {
-        KEY_STEP * b + a
+    let mut at = 0;
+    let mut i = 0;
+    while i < kinds.len() {
+        let end = end_of(kinds[i], at);
+        write_cell_keys(&vertices[at..end], keys, at);
+        at = end;
+        i += 1;
     }
-}
-
-// The key of the two vertices that an edge place joins.
-fn edge_key(vertices: &[u32], place: usize) -> u32
-    requires { ⌜ (3 * (place / 3) + 3 ≤ length (now vertices)) × (allBelow (now vertices) mostVertices ≡ true) ⌝ }
-    ensures { λ r. ⌜ r ≡ edgeKey (now (vertices .entry)) place ⌝ }
-{
-    let at = 3 * (place / 3);
-    let first = first_end(place % 3);
-    let second = second_end(place % 3);
-    pair_key(vertices[at + first], vertices[at + second])
 }
 
 // Whether an edge below the count has the key. With no way out before the end, it is compiled to several comparisons at a time.
@@ -68,17 +62,17 @@ fn may_have(keys: &[u32; MOST_EDGES], count: usize, edge: usize, key: u32) -> bo
     }
 }
 
-// Whether each edge, of so many, has one key at all its places, and no two edges have the same. An edge that no place passed has is marked with NO_KEY.
-pub(crate) fn keeps_edge_rule(vertices: &[u32], edges: &[u32], cells: usize, count: usize) -> bool
-    requires { ⌜ Numbered (now vertices) (now edges) cells count ⌝ }
-    ensures { λ r. ⌜ r ≡ edgeRule (now (vertices .entry)) (now (edges .entry)) ⌝ }
+// Whether each edge, of so many, has one key at all its places, and no two edges have the same, where the keys of the edge places are given. An edge that no place
+// passed has is marked with NO_KEY.
+fn keys_agree(places: &[u32], edges: &[u32], count: usize) -> bool
+    requires { ⌜ Numbered (now places) (now edges) count ⌝ }
+    ensures { λ r. ⌜ r ≡ keysAgree (now (places .entry)) (now (edges .entry)) ⌝ }
 {
-    let places = 3 * cells;
     let mut keys = [NO_KEY; MOST_EDGES];
     let mut k = 0;
-    while k < places {
+    while k < edges.len() {
         let edge = wide(edges[k]);
-        let key = edge_key(vertices, k);
+        let key = places[k];
         if may_have(&keys, count, edge, key) {
             keys[edge] = key;
             k += 1;
@@ -87,4 +81,26 @@ pub(crate) fn keeps_edge_rule(vertices: &[u32], edges: &[u32], cells: usize, cou
         }
     }
     true
+}
+
+// The edge rule, by way of a list of the keys of the edge places.
+fn agree_by(kinds: &[u8], vertices: &[u32], edges: &[u32], count: usize, places: &mut [u32]) -> bool
+    requires { ⌜ Shaped (now kinds) (now vertices) × (allBelow (now vertices) mostVertices ≡ true) ⌝ }
+    requires { ⌜ length (now places) ≡ length (now vertices) ⌝ }
+    requires { ⌜ Numbered (edgeKeys (now kinds) (now vertices) (length (now kinds))) (now edges) count ⌝ }
+    ensures { λ r. ⌜ r ≡ keysAgree (edgeKeys (now (kinds .entry)) (now (vertices .entry)) (length (now (kinds .entry)))) (now (edges .entry)) ⌝ }
+{
+    write_keys(kinds, vertices, places);
+    keys_agree(places, edges, count)
+}
+
+// The edge rule, of so many edges.
+pub(crate) fn keeps_edge_rule(kinds: &[u8], vertices: &[u32], edges: &[u32], count: usize) -> bool
+    requires { ⌜ Shaped (now kinds) (now vertices) × (allBelow (now vertices) mostVertices ≡ true) ⌝ }
+    requires { ⌜ Numbered (edgeKeys (now kinds) (now vertices) (length (now kinds))) (now edges) count ⌝ }
+    ensures { λ r. ⌜ r ≡ keysAgree (edgeKeys (now (kinds .entry)) (now (vertices .entry)) (length (now (kinds .entry)))) (now (edges .entry)) ⌝ }
+{
+    let n = vertices.len();
+    let mut places = [0u32; MOST_CORNERS * MOST_CELLS];
+    agree_by(kinds, vertices, edges, count, &mut places[..n])
 }

@@ -1,11 +1,11 @@
-// The mesh: the shape of a cell (`shape`), checks 1 to 3 (`checks`), and the edge rule (`edge_rule`).
+// The mesh: the shape of a cell (`shape`), checks 1, 26, 2 and 3 (`checks`), and the edge rule (`edge_rule`).
 mod checks;
 mod edge_rule;
 mod shape;
 
 pub use checks::mesh_refusal;
+pub use shape::corners_of;
 pub use shape::has_entity;
-pub use shape::neighbours;
 
 // The most cells, vertices and edges of a mesh.
 pub const MOST_CELLS: usize = 2048;

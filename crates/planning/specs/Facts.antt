@@ -6,7 +6,9 @@ use mathlib.Core.Bool.{true}
 use mathlib.Core.List.{[], _∷_}
 use Rattle.lists.specs.Bool.{and-left, and-right}
 use Rattle.lists.specs.Refusals.{check, refusal, Answers, answers, refusal-first, refusal-rest}
-use Rattle.grid.specs.Mesh.{mostCells, meshChecks}
+use Rattle.grid.specs.Mesh.{mostCells, Mesh, meshChecks}
+use Rattle.grid.specs.Facts.{Fine}
+use Rattle.cells_by_key.specs.Groups.{Below}
 use Rattle.numbers.specs.Ranges.{within-high}
 use Rattle.function.specs.declared.Element.{Element}
 use Rattle.function.specs.Elements.{mostDim, dim, dimsRight}
@@ -23,6 +25,13 @@ pub record Products (C m n : ℕ) : Type 0 where
 pub products : (C m n : ℕ) → C ≤ mostCells → m ≤ mostDim → n ≤ mostDim → Products C m n
 products C m n c p q = record { test = mul-le-mul c p; trial = mul-le-mul c q; pairs = mul-le-mul c c }
 
+-- the numbers of a mesh that checks 1 to 3 pass
+pub vertices-below : {m : Mesh} → Fine m → Below (m .cellVertices) (m .vertices)
+vertices-below h = record { below = h .vertexBelow }
+
+pub edges-below : {m : Mesh} → Fine m → Below (m .cellEdges) (m .edges)
+edges-below h = record { below = h .edgeBelow }
+
 -- checks 1 to 3 turn the mesh down
 pub mesh-fails : (x : Planning) (l : Lists) (v : ℕ) → v ≡ refusal (meshChecks (x .mesh)) → (v ≡ 0 → ⊥) → v ≡ planRefusal x l
 unfolding planRefusal
@@ -34,7 +43,7 @@ pub mesh-passes : (x : Planning) (l : Lists) {v : ℕ} → refusal (meshChecks (
     (check 4 (dimsRight (x .test) (x .trial))
     ∷ check 5 (batchRight (x .batch))
     ∷ check 6 (integrandRight (x .integrand))
-    ∷ check 7 (patternsRight (x .mesh .cells) (x .mesh .cellVertices))
+    ∷ check 7 (patternsRight (x .mesh))
     ∷ check 8 (lengthsRight (x .mesh .cells) (x .test) (x .trial) l)
     ∷ [])
     v

@@ -2,29 +2,33 @@
 use Prim.Native.Nat.{ℕ, zero, suc, _-_, _*_, _≤_}
 use native.Mathlib.Nat.{mul-le-mul}
 use native.Mathlib.Omega.{arith}
-use mathlib.Core.Path.{_≡_, refl, ap, _∙_}
+use mathlib.Core.Path.{_≡_, refl, sym, ap, subst, _∙_}
 use mathlib.Core.Bool.{true}
-use mathlib.Core.List.{List, _++_}
+use mathlib.Core.List.{List, [], _++_}
 use lib.ListN.{length, drop}
 use borrow.Author.Tests.{eqb-true}
 use Rattle.lists.specs.Bool.{every-at}
-use Rattle.grid.specs.Mesh.{mostCells, Mesh, verticesRight}
+use Rattle.lists.specs.Bounded.{all-ext}
+use Rattle.grid.specs.Cells.{distinct}
+use Rattle.grid.specs.Mesh.{mostCells, Mesh, triangles, corners, sizesOf, verticesRight}
+use Rattle.grid.specs.Facts.{vertex-thirds, edge-thirds, corners-are}
 use Rattle.numbers.specs.Ranges.{within-high}
 use Rattle.function.specs.declared.Element.{Element}
-use Rattle.function.specs.Elements.{dim}
+use Rattle.function.specs.Elements.{dim, elementOf, cellDim, alike}
 use Rattle.dof_numbering.specs.Numbering.{dofList, dofCount, ownerList}
 use Rattle.dof_numbering.specs.Walk.{Sized}
 use Rattle.function.specs.Colours.{colourList, colourCount, Colourable}
 use Rattle.function.specs.ColoursPromises.{count-at-most}
 use Rattle.cell_pairs.specs.Records.{flat}
-use Rattle.cell_pairs.specs.WorkList.{mostBatch, distantPart, touchingPair, touchingPart, workList, sharingPairs, distantPairs}
+use Rattle.cell_pairs.specs.WorkList.{mostBatch, coloured, distantKinds, distantPart, touchingPair, touchingPart, workList, sharingPairs, distantPairs}
 use Rattle.cell_pairs.specs.Counting.{Countable, split}
+use Rattle.cell_patterns.specs.PatternFacts.{mesh-patterns}
 use Rattle.touching_pairs.specs.Visits.{bare, Touchable}
 use Rattle.plans.specs.declared.PlanNumbers.{PlanNumbers}
 use Rattle.plans.specs.declared.Planned.the-variants.{Ready as ready, Refused as refused}
 use Rattle.plans.specs.Planning.{listsOf, planRefusal, plan, planAnswer, planLists, unlessRefused, Planning, Lists, spaceOn, testSpace, trialSpace, batchRight, lengthsRight, planNumbers, writtenLists}
-use Rattle.plans.specs.Accepted.{Accepted, counted, mesh-fine}
-use Rattle.planning.specs.Facts.{dims-small}
+use Rattle.plans.specs.Accepted.{Accepted, counted, mesh-fine, filled}
+use Rattle.planning.specs.Facts.{dims-small, vertices-below, edges-below}
 use Rattle.planning.specs.Work.{Ready as WorkReady, Written}
 
 -- 8, by its parts
@@ -50,14 +54,17 @@ lengths C test trial l h =
       work = eqb-true _ _ (every-at _ h 6);
     }
 
--- the distant pairs and the work list read only cells, vertices and the vertex list
-pub bare-distant : (m : Mesh) (top : ℕ) → distantPairs (bare (m .cells) top (m .cellVertices)) ≡ distantPairs m
-unfolding distantPairs
-bare-distant m top = refl
+-- the distant pairs and the work list of triangles read only cells, vertices and the vertex list
+abbrev read : Mesh → ℕ → List ℕ → Mesh
+read m top ks = record { cells = m .cells; vertices = top; edges = 0; kinds = ks; cellVertices = m .cellVertices; cellEdges = [] }
 
-pub bare-work : (m : Mesh) (B : ℕ) (ts rs : List ℕ) → workList (bare (m .cells) (m .vertices) (m .cellVertices)) B ts rs ≡ workList m B ts rs
-unfolding workList distantPart touchingPart touchingPair
-bare-work m B ts rs = refl
+bare-distant : (m : Mesh) → m .kinds ≡ triangles (m .cells) → (top : ℕ) → distantPairs (bare (m .cells) top (m .cellVertices)) ≡ distantPairs m
+unfolding distantPairs corners
+bare-distant m e top = ap (λ (ks : List ℕ). distantPairs (read m top ks)) (sym e)
+
+bare-work : (m : Mesh) → m .kinds ≡ triangles (m .cells) → (B : ℕ) (ts rs : List ℕ) → workList (bare (m .cells) (m .vertices) (m .cellVertices)) B ts rs ≡ workList m B ts rs
+unfolding workList distantPart distantKinds coloured touchingPart touchingPair corners
+bare-work m e B ts rs = ap (λ (ks : List ℕ). workList (read m (m .vertices) ks) B ts rs) (sym e)
 
 module _ {x : Planning} {l : Lists} (ok : Accepted x l) where
   abbrev C : ℕ
@@ -68,13 +75,13 @@ module _ {x : Planning} {l : Lists} (ok : Accepted x l) where
 
   -- what `assign_dofs` asks
   sized : (e : Element) → dim e ≤ 10 → Sized (spaceOn (x .mesh) e) C
+  unfolding elementOf
   sized e small =
       let m = mesh-fine ok in
       record {
         few = m .fewCells;
-        vertices-long = m .vertexPlaces;
-        edges-long = m .edgePlaces;
-        small = small;
+        filled = filled ok e;
+        small = λ i h. subst (λ (n : ℕ). cellDim (alike e) n ≤ 10) (sym (m .each i h)) small;
         vertices-below = λ p h. omega (arith, m .vertexBelow p h, m .fewVertices);
         edges-below = λ p h. omega (arith, m .edgeBelow p h, m .fewEdges);
       }
@@ -86,33 +93,46 @@ module _ {x : Planning} {l : Lists} (ok : Accepted x l) where
   trial-sized = sized (x .trial) (dims-small (x .test) (x .trial) (ok .dims) .1)
 
   -- what `cell_colouring` asks
-  pub colourable : (colours : List ℕ) → length colours ≡ C → Colourable C (x .mesh .cellVertices) (x .mesh .cellEdges) colours
+  pub colourable : (colours : List ℕ) → length colours ≡ C → Colourable (sizesOf C (x .mesh .vertices) (x .mesh .edges)) (x .mesh .cellVertices) (x .mesh .cellEdges) colours
   colourable colours e =
       let m = mesh-fine ok in
-      record { cells = m .fewCells; vertex-list = m .vertexPlaces; edge-list = m .edgePlaces; places = e }
+      record {
+        cells = m .fewCells;
+        few-vertices = m .fewVertices;
+        few-edges = m .fewEdges;
+        vertex-list = vertex-thirds (x .mesh) m;
+        edge-list = edge-thirds (x .mesh) m;
+        vertices-below = vertices-below m;
+        edges-below = edges-below m;
+        places = e;
+      }
 
   -- what the work list asks
   touchable : Touchable (x .mesh .vertices) (x .mesh .cellVertices)
   unfolding verticesRight
   touchable =
+      let m = mesh-fine ok in
       record {
         cells = C;
-        size = mesh-fine ok .vertexPlaces;
+        size = vertex-thirds (x .mesh) m;
         below = every-at _ (ok .vertices) 1;
-        apart = every-at _ (ok .vertices) 2;
-        patterns = ok .patterns;
+        apart = all-ext C _ _ (λ i h. ap distinct (sym (corners-are (x .mesh) m i h))) ∙ every-at _ (ok .vertices) 2;
+        patterns = mesh-patterns (x .mesh) (m .kinds) (vertex-thirds (x .mesh) m) ∙ ok .patterns;
       }
 
   counts : Countable (bare C (x .mesh .vertices) (x .mesh .cellVertices)) (x .batch) (colourList (testSpace x) C) (colourList (trialSpace x) C)
+  unfolding corners
   counts =
       let c = counted ok in
-      record {
+      subst (λ (ks : List ℕ). Countable (read (x .mesh) (x .mesh .vertices) ks) (x .batch) (colourList (testSpace x) C) (colourList (trialSpace x) C)) (mesh-fine ok .kinds)
+      (record {
         batch = c .batch;
+        kinds = c .kinds;
         testColours = c .testColours;
         trialColours = c .trialColours;
         vertices = c .vertices;
         patterns = c .patterns;
-      }
+      })
 
   work-ready : (work : List ℕ) → length work ≡ 3 * (C * C) → (tn rn : ℕ) → tn ≡ colourCount (colourList (testSpace x) C) → rn ≡ colourCount (colourList (trialSpace x) C)
       → WorkReady (bare C (x .mesh .vertices) (x .mesh .cellVertices)) (x .batch) (colourList (testSpace x) C) tn (colourList (trialSpace x) C) rn work
@@ -122,7 +142,9 @@ module _ {x : Planning} {l : Lists} (ok : Accepted x l) where
       record {
         counts = counts;
         touchable = touchable;
-        long = m .vertexPlaces;
+        one = m .one;
+        kinds = refl;
+        long = vertex-thirds (x .mesh) m;
         cells = m .fewCells;
         top = m .fewVertices;
         batch = omega (arith, within-high 1 mostBatch (x .batch) (ok .batch));
@@ -147,25 +169,19 @@ module _ {x : Planning} {l : Lists} (ok : Accepted x l) where
 
   module _ {C′ : ℕ} (c : C′ ≡ C) where
     pub ready-at : {top B tn rn : ℕ} {ts rs : List ℕ} (work : List ℕ) → top ≡ x .mesh .vertices → B ≡ x .batch
-        → ts ≡ colourList (testSpace x) C′ → rs ≡ colourList (trialSpace x) C′ → (nt nr : ℕ) → tn ≡ nt → rn ≡ nr
-        → nt ≡ colourCount (colourList (testSpace x) C′) → nr ≡ colourCount (colourList (trialSpace x) C′) → length work ≡ 3 * (C * C)
+        → ts ≡ colourList (testSpace x) C → rs ≡ colourList (trialSpace x) C → (nt nr : ℕ) → tn ≡ nt → rn ≡ nr
+        → nt ≡ colourCount (colourList (testSpace x) C) → nr ≡ colourCount (colourList (trialSpace x) C) → length work ≡ 3 * (C * C)
         → WorkReady (bare C′ top (x .mesh .cellVertices)) B ts tn rs rn work
-    ready-at work v b t r nt nr wt wr et er long =
-        let t′ : _ ≡ colourList (testSpace x) C = t ∙ ap (colourList (testSpace x)) c in
-        let r′ : _ ≡ colourList (trialSpace x) C = r ∙ ap (colourList (trialSpace x)) c in
-        rw (c, v, b, t′, r′)
-        (work-ready work long _ _
-        (wt ∙ et ∙ ap (λ (n : ℕ). colourCount (colourList (testSpace x) n)) c)
-        (wr ∙ er ∙ ap (λ (n : ℕ). colourCount (colourList (trialSpace x) n)) c))
+    ready-at work v b t r nt nr wt wr et er long = rw (c, v, b, t, r) (work-ready work long _ _ (wt ∙ et) (wr ∙ er))
 
     module _ {top B n : ℕ} {ts rs work : List ℕ} (w : Written (bare C′ top (x .mesh .cellVertices)) B ts rs work n) where
       distant-is : n ≡ distantPairs (x .mesh)
-      distant-is = w .distant ∙ ap (λ (k : ℕ). distantPairs (bare k top (x .mesh .cellVertices))) c ∙ bare-distant (x .mesh) top
+      distant-is = w .distant ∙ ap (λ (k : ℕ). distantPairs (bare k top (x .mesh .cellVertices))) c ∙ bare-distant (x .mesh) (mesh-fine ok .kinds) top
 
       pub distant-fits : n ≤ C * C
       distant-fits = omega (arith, distant-is, distant-few)
 
-      pub numbers-are : {rows columns : ℕ} → rows ≡ dofCount (testSpace x) C′ → columns ≡ dofCount (trialSpace x) C′
+      pub numbers-are : {rows columns : ℕ} → rows ≡ dofCount (testSpace x) C → columns ≡ dofCount (trialSpace x) C
           → record {
             cells = C;
             vertices = x .mesh .vertices;
@@ -179,20 +195,20 @@ module _ {x : Planning} {l : Lists} (ok : Accepted x l) where
             integrand = x .integrand;
           } ≡ planNumbers x
       unfolding planNumbers
-      numbers-are r k = rw (touching-rest n distant-is, distant-is, r ∙ ap (dofCount (testSpace x)) c, k ∙ ap (dofCount (trialSpace x)) c)
+      numbers-are r k = rw (touching-rest n distant-is, distant-is, r, k)
 
-      pub lists-are : {td rd to ro : List ℕ} → top ≡ x .mesh .vertices → B ≡ x .batch → td ≡ dofList (testSpace x) C′ → rd ≡ dofList (trialSpace x) C′
-          → ts ≡ colourList (testSpace x) C′ → rs ≡ colourList (trialSpace x) C′
-          → to ≡ ownerList (testSpace x) C′ ++ drop (3 * dofCount (testSpace x) C′) (l .testOwners)
-          → ro ≡ ownerList (trialSpace x) C′ ++ drop (3 * dofCount (trialSpace x) C′) (l .trialOwners)
+      pub lists-are : {td rd to ro : List ℕ} → top ≡ x .mesh .vertices → B ≡ x .batch → td ≡ dofList (testSpace x) C → rd ≡ dofList (trialSpace x) C
+          → ts ≡ colourList (testSpace x) C → rs ≡ colourList (trialSpace x) C
+          → to ≡ ownerList (testSpace x) C ++ drop (3 * dofCount (testSpace x) C) (l .testOwners)
+          → ro ≡ ownerList (trialSpace x) C ++ drop (3 * dofCount (trialSpace x) C) (l .trialOwners)
           → listsOf td rd ts rs to ro work ≡ writtenLists x l
       unfolding writtenLists
       lists-are v b td rd t r to ro =
           let work-is : work ≡ flat (workList (x .mesh) (x .batch) (colourList (testSpace x) C) (colourList (trialSpace x) C)) =
           w .list
           ∙ rw (t, r, b, v, c) refl
-          ∙ ap flat (bare-work (x .mesh) (x .batch) _ _) in
-          rw (td, rd, t, r, to, ro, work-is, c)
+          ∙ ap flat (bare-work (x .mesh) (mesh-fine ok .kinds) (x .batch) _ _) in
+          rw (td, rd, t, r, to, ro, work-is)
 
 -- ---- the two ways the call ends
 

@@ -5,17 +5,19 @@ use mathlib.Core.Path.{_≡_, sym, ap, subst, _∙_}
 use mathlib.Core.List.{List, _++_}
 use lib.ListN.{length, getD, take, replicate}
 use lib.Dec.{eqb}
+use Rattle.lists.specs.Bool.{_and_}
+use Rattle.lists.specs.Range.{range, filter}
 use Rattle.lists.specs.Stores.{sets-all}
 use Rattle.lists.specs.Writes.{Room, Wrote, wrote-more, wrote-length}
-use Rattle.grid.specs.Mesh.{mostCells, mostVertices, Mesh}
+use Rattle.grid.specs.Mesh.{mostCells, mostVertices, Mesh, triangles, kind}
 use Rattle.function.specs.Colours.{colourCount}
 use Rattle.cell_pairs.specs.Records.{width, flat}
 use Rattle.cell_pairs.specs.RecordsFacts.{records, length-flat}
 use Rattle.cell_pairs.specs.WorkList.{mostBatch, coloured, distantPart, touchingPart, workList, distantPairs}
 use Rattle.cell_pairs.specs.Counting.{Countable, split, length-distant, length-touching, length-work}
-use Rattle.cell_pairs.specs.CellGroupsFacts.{colour-below}
+use Rattle.cell_pairs.specs.CellGroupsFacts.{colour-below, coloured-triangles}
 use Rattle.cells_by_key.specs.Groups.{cellsWith, Grouped, Cut, Below, Zeros}
-use Rattle.cells_by_key.specs.GroupsFacts.{filter-cells, grouped-as, grouped-cut, with-colour, scratch, scratch-zeros}
+use Rattle.cells_by_key.specs.GroupsFacts.{filter-cells, grouped-as, grouped-cut, with-one, scratch, scratch-zeros}
 use Rattle.distant_pairs.specs.Distant.{distantParts}
 use Rattle.distant_pairs.specs.Facts.{distant-is}
 use Rattle.touching_pairs.specs.Visits.{Touchable}
@@ -23,6 +25,8 @@ use Rattle.touching_pairs.specs.Visits.{Touchable}
 pub record Ready (m : Mesh) (B : ℕ) (ts : List ℕ) (tn : ℕ) (rs : List ℕ) (rn : ℕ) (work : List ℕ) : Type 0 where
   pub counts : Countable m B ts rs
   pub touchable : Touchable (m .vertices) (m .cellVertices)
+  pub one : 1 ≤ m .cells
+  pub kinds : m .kinds ≡ triangles (m .cells)
   pub long : length (m .cellVertices) ≡ 3 * m .cells
   pub cells : m .cells ≤ mostCells
   pub top : m .vertices ≤ mostVertices
@@ -46,31 +50,31 @@ pub record Written (m : Mesh) (B : ℕ) (ts rs work : List ℕ) (n : ℕ) : Type
 
 -- ---- what each call needs, and what they come to
 
-module _ {C n : ℕ} (cs : List ℕ) {order ends : List ℕ} (long : length cs ≡ C) (count : n ≡ colourCount cs) (s : Scratch C n order ends) where
-  -- each colour has a place
-  pub colours-below : Below cs (length ends)
-  colours-below = record { below = λ k l. omega (arith, colour-below cs k l, s .colours) }
+-- each colour has a place
+pub colours-below : {C n : ℕ} (cs : List ℕ) {order ends : List ℕ} → n ≡ colourCount cs → Scratch C n order ends → Below cs (length ends)
+colours-below cs count s = record { below = λ k l. omega (arith, colour-below cs k l, s .colours) }
 
-  -- the cells are grouped by colour
-  by-colour : {order′ ends′ : List ℕ} → Grouped order′ ends′ (length ends) (cellsWith cs 1) → Grouped order′ ends′ (colourCount cs) (coloured C cs)
-  by-colour {order′} {ends′} g =
-      subst (λ (k : ℕ). Grouped order′ ends′ k (coloured C cs)) (s .colours ∙ count)
-      (grouped-as g (coloured C cs) (λ c _. with-colour cs c ∙ ap (λ (k : ℕ). coloured k cs c) long))
+-- the cells, all of kind 3, are grouped by colour
+by-colour : (m : Mesh) → m .kinds ≡ triangles (m .cells) → {n : ℕ} (cs : List ℕ) {order ends order′ ends′ : List ℕ} → length cs ≡ m .cells → n ≡ colourCount cs
+    → Scratch (m .cells) n order ends → Grouped order′ ends′ (length ends) (cellsWith cs 1) → Grouped order′ ends′ (colourCount cs) (coloured m cs 3)
+by-colour m e cs {order′ = order′} {ends′ = ends′} long count s g =
+    subst (λ (k : ℕ). Grouped order′ ends′ k (coloured m cs 3)) (s .colours ∙ count)
+    (grouped-as g (coloured m cs 3) (λ c _. with-one cs c ∙ ap (λ (k : ℕ). filter (λ i. eqb (getD cs i 0) c) (range k)) long ∙ sym (coloured-triangles m e cs c)))
 
 -- groups of cells
-coloured-cut : (m : Mesh) (cs : List ℕ) {n : ℕ} {order ends : List ℕ} → length (m .cellVertices) ≡ 3 * m .cells → Grouped order ends n (coloured (m .cells) cs)
+coloured-cut : (m : Mesh) (cs : List ℕ) {n : ℕ} {order ends : List ℕ} → length (m .cellVertices) ≡ 3 * m .cells → Grouped order ends n (coloured m cs 3)
     → Cut (m .cellVertices) order ends
 unfolding coloured
-coloured-cut m cs h g = grouped-cut g (λ c _. filter-cells (m .cellVertices) (m .cells) (λ i. eqb (getD cs i 0) c) (omega (arith, h)))
+coloured-cut m cs h g = grouped-cut g (λ c _. filter-cells (m .cellVertices) (m .cells) (λ i. eqb (kind m i) 3 and eqb (getD cs i 0) c) (omega (arith, h)))
 
 module _ {m : Mesh} {B : ℕ} {ts : List ℕ} {tn : ℕ} {rs : List ℕ} {rn : ℕ} {work : List ℕ} (r : Ready m B ts tn rs rn work)
     {to te ro re to′ te′ ro′ re′ : List ℕ} (st : Scratch (m .cells) tn to te) (sr : Scratch (m .cells) rn ro re)
     (gt : Grouped to′ te′ (length te) (cellsWith ts 1)) (gr : Grouped ro′ re′ (length re) (cellsWith rs 1)) where
-  tests : Grouped to′ te′ (colourCount ts) (coloured (m .cells) ts)
-  tests = by-colour ts (r .counts .testColours) (r .test) st gt
+  tests : Grouped to′ te′ (colourCount ts) (coloured m ts 3)
+  tests = by-colour m (r .kinds) ts (r .counts .testColours) (r .test) st gt
 
-  trials : Grouped ro′ re′ (colourCount rs) (coloured (m .cells) rs)
-  trials = by-colour rs (r .counts .trialColours) (r .trial) sr gr
+  trials : Grouped ro′ re′ (colourCount rs) (coloured m rs 3)
+  trials = by-colour m (r .kinds) rs (r .counts .trialColours) (r .trial) sr gr
 
   pub test-cut : Cut (m .cellVertices) to′ te′
   test-cut = coloured-cut m ts (r .long) tests
@@ -80,7 +84,7 @@ module _ {m : Mesh} {B : ℕ} {ts : List ℕ} {tn : ℕ} {rs : List ℕ} {rn : �
 
   -- what is written by colours is the distant part
   distant-same : distantParts (m .cellVertices) B to′ te′ ro′ re′ ≡ distantPart m B ts rs
-  distant-same = distant-is m B ts rs tests trials
+  distant-same = distant-is m (r .one) (r .kinds) (r .long) B ts rs tests trials
 
   -- the counting theorem gives the room
   pub distant-room : Room records work 0 (distantParts (m .cellVertices) B to′ te′ ro′ re′)

@@ -1,11 +1,11 @@
 // Checks 1 to 8, in this order.
 use crate::Assembly;
+use crate::triangles::triangles_refusal;
 use cell_pairs::WIDTH;
 use cell_patterns::patterns_right;
 use function::Element;
 use function::dims_right;
 use grid::Sizes;
-use grid::mesh_refusal;
 use integrands::integrand_right;
 use numbers::wide;
 ghost use mathlib.Core.Path.{_≡_};
@@ -69,7 +69,7 @@ pub(crate) fn plan_refusal(
     let test = assembly.test;
     let trial = assembly.trial;
     let integrand = assembly.integrand;
-    let v = mesh_refusal(sizes, cell_vertices, cell_edges);
+    let v = triangles_refusal(sizes, cell_vertices, cell_edges);
     if v != 0 {
         return v;
     }
@@ -82,7 +82,7 @@ pub(crate) fn plan_refusal(
     if !integrand_right(integrand) {
         return 6;
     }
-    if !patterns_right(wide(sizes.cells), cell_vertices) {
+    if !patterns_right(wide(sizes.cells), wide(sizes.vertices), cell_vertices) {
         return 7;
     }
     if !lengths_right(

@@ -1,16 +1,18 @@
 // Planning: from mesh, elements, batch size and integrand to the plan and its numbers.
 mod checks;
+mod colours;
+mod triangles;
 mod work_list;
 
 use checks::plan_refusal;
-use dof_numbering::assign_dofs;
+use colours::write_colours;
 use function::Element;
-use function::cell_colouring;
 use grid::Sizes;
 use integrands::Integrand;
 use numbers::wide;
 use plans::PlanNumbers;
 use plans::Planned;
+use triangles::assign_triangles;
 use work_list::write_work;
 ghost use mathlib.Core.Path.{_≡_};
 ghost use Rattle.plans.specs.Planning.{plan, planNumbers, planLists, writtenLists};
@@ -52,8 +54,8 @@ fn write_plan(
     let trial = assembly.trial;
     let integrand = assembly.integrand;
     let c = wide(sizes.cells);
-    let rows = assign_dofs(c, cell_vertices, cell_edges, test, test_dofs, test_owners);
-    let columns = assign_dofs(
+    let rows = assign_triangles(c, cell_vertices, cell_edges, test, test_dofs, test_owners);
+    let columns = assign_triangles(
         c,
         cell_vertices,
         cell_edges,
@@ -61,17 +63,24 @@ fn write_plan(
         trial_dofs,
         trial_owners,
     );
-    let test_count = cell_colouring(c, cell_vertices, cell_edges, test, test_colours);
-    let trial_count = cell_colouring(c, cell_vertices, cell_edges, trial, trial_colours);
+    let counts = write_colours(
+        sizes,
+        cell_vertices,
+        cell_edges,
+        test,
+        trial,
+        test_colours,
+        trial_colours,
+    );
     let n = write_work(
         c,
         wide(sizes.vertices),
         cell_vertices,
         wide(assembly.batch),
         test_colours,
-        wide(test_count),
+        wide(counts.test),
         trial_colours,
-        wide(trial_count),
+        wide(counts.trial),
         work,
     );
     let distant = n as u32;

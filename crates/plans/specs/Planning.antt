@@ -9,7 +9,7 @@ use Rattle.lists.specs.Refusals.{Check, check, refusal}
 use Rattle.grid.specs.Mesh.{Mesh, meshChecks}
 use Rattle.numbers.specs.Ranges.{within}
 use Rattle.function.specs.declared.Element.{Element}
-use Rattle.function.specs.Elements.{dim, dimsRight, Space}
+use Rattle.function.specs.Elements.{dim, alike, dimsRight, Space}
 use Rattle.dof_numbering.specs.Numbering.{dofList, dofCount, ownerList}
 use Rattle.function.specs.Colours.{colourList}
 use Rattle.integrands.specs.declared.Integrand.{Integrand}
@@ -64,9 +64,9 @@ listsFor x =
     (replicate (3 * (C * dim (x .trial))) 0)
     (replicate (width * (C * C)) 0)
 
--- an element on the mesh
+-- an element on the mesh, which is of triangles
 abbrev pub spaceOn : Mesh → Element → Space
-spaceOn m e = record { cellVertices = m .cellVertices; cellEdges = m .cellEdges; element = e }
+spaceOn m e = record { kinds = m .kinds; cellVertices = m .cellVertices; cellEdges = m .cellEdges; elements = alike e }
 
 abbrev pub testSpace : Planning → Space
 testSpace x = spaceOn (x .mesh) (x .test)
@@ -99,7 +99,7 @@ planChecks x l =
     ++ check 4 (dimsRight (x .test) (x .trial))
     ∷ check 5 (batchRight (x .batch))
     ∷ check 6 (integrandRight (x .integrand))
-    ∷ check 7 (patternsRight (x .mesh .cells) (x .mesh .cellVertices))
+    ∷ check 7 (patternsRight (x .mesh))
     ∷ check 8 (lengthsRight (x .mesh .cells) (x .test) (x .trial) l)
     ∷ []
 

@@ -1,6 +1,7 @@
 -- What is promised of every planning that is accepted, said of what it answers (`plan x l`) and of what stands in the lent lists afterwards (`planLists x l`).
 -- Assumes nothing.
 use Prim.Native.Nat.{ℕ, zero, suc, _+_, _*_, _≤_, _<_}
+use native.Mathlib.Nat.{le-refl}
 use native.Mathlib.Omega.{arith}
 use mathlib.Core.Path.{_≡_, refl, ap, _∙_}
 use mathlib.Core.Bool.{true}
@@ -8,11 +9,12 @@ use mathlib.Core.List.{List, [], _∷_, _++_}
 use lib.ListN.{length, getD, drop, List·getD-append}
 use lib.Seq.{drop-at}
 use Rattle.lists.specs.Total.{count}
-use Rattle.grid.specs.Facts.{vertices-differ, edges-differ}
+use Rattle.grid.specs.Cells.{before, part, own}
+use Rattle.grid.specs.Facts.{vertices-differ, edges-differ, sides-length}
 use Rattle.function.specs.declared.Element.{Element}
-use Rattle.function.specs.Elements.{dim, Space}
-use Rattle.dof_numbering.specs.Numbering.{dimensionOf, entityOf, dofsOn, dofsBefore, sameEntity, dofList, dofCount, ownerList}
-use Rattle.dof_numbering.specs.Promises.{dof-list-length, dof-below, dof-count-le, number-written, cell-numbers-differ, shared-numbers, number-below, owner-names, owner-list-length}
+use Rattle.function.specs.Elements.{dim, cellDim, Space}
+use Rattle.dof_numbering.specs.Numbering.{visits, dimensionOf, entityOf, dofsOn, sameEntity, dofList, dofCount, ownerList, kind, visitsIn, visitOf, dofPlace}
+use Rattle.dof_numbering.specs.Promises.{dof-list-length, dof-below, dof-count-le, number-written, Distinct, cell-numbers-differ, shared-numbers, number-below, owner-names, owner-list-length}
 use Rattle.function.specs.Colours.{sharing, colourList}
 use Rattle.function.specs.ColoursPromises.{colours-long, sharing-differ}
 use Rattle.cell_pairs.specs.Records.{rec, width, flat, recordsOf}
@@ -20,11 +22,11 @@ use Rattle.cell_pairs.specs.RecordsFacts.{length-flat, records-flat}
 use Rattle.cell_pairs.specs.WorkList.{sharingPairs, distantPairs}
 use Rattle.cell_pairs.specs.WorkRecords.{ofPair, Distant, Touching}
 use Rattle.cell_pairs.specs.Counting.{once, split, length-work, record-distant, record-touching}
-use Rattle.grid.specs.Mesh.{Mesh}
+use Rattle.grid.specs.Mesh.{Mesh, corners, sides}
 use Rattle.plans.specs.declared.PlanNumbers.{PlanNumbers}
 use Rattle.plans.specs.declared.Planned.the-variants.{Ready as ready, Refused as refused}
 use Rattle.plans.specs.Planning.{Planning, Lists, planRefusal, planAnswer, unlessRefused, spaceOn, testSpace, trialSpace, workRecords, planNumbers, plan, planLists, writtenLists}
-use Rattle.plans.specs.Accepted.{Accepted, accepted, counted, mesh-fine, ready-is}
+use Rattle.plans.specs.Accepted.{Accepted, accepted, counted, mesh-fine, filled, matched, cells-dofs, ready-is}
 
 -- ---- the work list, of which the first N records are distant
 
@@ -39,24 +41,31 @@ pub record Listed (m : Mesh) (N : ℕ) (work : List ℕ) : Type 0 where
   -- the others of two cells of the mesh that share one, with their own pattern, 0 to 27
   pub touching : (k : ℕ) → N ≤ k → k < m .cells * m .cells → Touching m (getD (recordsOf work) k (rec 0 0 0))
 
--- ---- DOFs, colours and owners of an element on C cells. Place p of cell i, 0 to 2 its vertices, 3 to 5 its edges, 6 its interior, is visit 7i + p
+-- ---- DOFs, colours and owners of the elements on C cells. Place p of cell i, first its vertices, then its edges, then its interior, is visit `visitOf s i p`, and
+-- the DOFs of that place begin at `dofPlace s i p` of the DOF list
+
+-- how many DOFs the cells before cell i have together
+abbrev pub cellsDofs : Space → ℕ → ℕ
+cellsDofs s i = before (cellDim (s .elements)) (s .kinds) i
 
 pub record Spaced (s : Space) (C count : ℕ) (dofs colours owners before : List ℕ) : Type 0 where
-  pub dofs-long : length dofs ≡ C * dim (s .element)
-  -- every DOF number is below the count, which is at most C·dim, and each number below it is used
-  pub dofs-below : (k : ℕ) → k < C * dim (s .element) → getD dofs k 0 < count
-  pub dofs-few : count ≤ C * dim (s .element)
-  pub dofs-used : (n : ℕ) → n < count → (k : ℕ) × (k < C * dim (s .element)) × (getD dofs k 0 ≡ n)
+  -- as many as the cells' own dims add up to, which for triangles is C·dim
+  pub dofs-long : length dofs ≡ cellsDofs s C
+  pub dofs-sum : cellsDofs s C ≡ C * dim (s .elements .triangle)
+  -- every DOF number is below the count, which is at most that, and each number below it is used
+  pub dofs-below : (k : ℕ) → k < cellsDofs s C → getD dofs k 0 < count
+  pub dofs-few : count ≤ cellsDofs s C
+  pub dofs-used : (n : ℕ) → n < count → (k : ℕ) × (k < cellsDofs s C) × (getD dofs k 0 ≡ n)
   -- no DOF number stands twice in one cell
-  pub dofs-differ : (i a b : ℕ) → i < C → a < dim (s .element) → b < dim (s .element)
-      → getD dofs (dim (s .element) * i + a) 0 ≡ getD dofs (dim (s .element) * i + b) 0 → a ≡ b
+  pub dofs-differ : (i a b : ℕ) → i < C → a < cellDim (s .elements) (kind s i) → b < cellDim (s .elements) (kind s i)
+      → getD dofs (cellsDofs s i + a) 0 ≡ getD dofs (cellsDofs s i + b) 0 → a ≡ b
   -- cells that share an entity share its DOFs
-  pub dofs-shared : (i p j r q : ℕ) → i < C → p < 7 → j < C → r < 7 → sameEntity s (7 * i + p) (7 * j + r) ≡ true → q < dofsOn s (7 * i + p)
-      → getD dofs (dim (s .element) * i + dofsBefore (s .element) p + q) 0 ≡ getD dofs (dim (s .element) * j + dofsBefore (s .element) r + q) 0
+  pub dofs-shared : (i p j r q : ℕ) → i < C → p < visitsIn (kind s i) → j < C → r < visitsIn (kind s j) → sameEntity (visits s C) (visitOf s i p) (visitOf s j r) ≡ true
+      → q < dofsOn (visits s C) (visitOf s i p) → getD dofs (dofPlace s i p + q) 0 ≡ getD dofs (dofPlace s j r + q) 0
   -- the owner record of a DOF names dimension, entity and place on it
-  pub owners-named : (i p q d : ℕ) → i < C → p < 7 → q < dofsOn s (7 * i + p) → d < 3
-      → getD owners (3 * getD dofs (dim (s .element) * i + dofsBefore (s .element) p + q) 0 + d) 0
-      ≡ getD (dimensionOf (7 * i + p) ∷ entityOf s (7 * i + p) ∷ q ∷ []) d 0
+  pub owners-named : (i p q d : ℕ) → i < C → p < visitsIn (kind s i) → q < dofsOn (visits s C) (visitOf s i p) → d < 3
+      → getD owners (3 * getD dofs (dofPlace s i p + q) 0 + d) 0
+      ≡ getD (dimensionOf (visits s C) (visitOf s i p) ∷ entityOf (visits s C) (visitOf s i p) ∷ q ∷ []) d 0
   -- the tail past the last record stays
   pub owners-tail : drop (3 * count) owners ≡ drop (3 * count) before
   -- one colour a cell, and two cells that share an entity of the colouring dimension have different ones
@@ -98,34 +107,43 @@ module _ {x : Planning} {l : Lists} (ok : Accepted x l) where
         touching = λ k a b. rw (records-flat (workRecords x)) (record-touching (x .mesh) (x .batch) _ _ h k a b);
       }
 
+  -- the vertices of a cell differ, and so do its edges
+  corners-differ : (i : ℕ) → i < C → Distinct (part own (x .mesh .kinds) (x .mesh .cellVertices) i)
+  unfolding corners
+  corners-differ i h = vertices-differ (corners (x .mesh) i) (mesh-fine ok .apart i h)
+
+  sides-differ : (i : ℕ) → i < C → Distinct (part own (x .mesh .kinds) (x .mesh .cellEdges) i)
+  unfolding sides
+  sides-differ i h p q hp hq =
+      let m = mesh-fine ok in
+      let n = sides-length (x .mesh) m i h in
+      edges-differ (x .mesh) m i h p q (omega (arith, n)) (omega (arith, n))
+
   spaced : (e : Element) (before : List ℕ)
       → (let s = spaceOn (x .mesh) e in Spaced s C (dofCount s C) (dofList s C) (colourList s C) (ownerList s C ++ drop (3 * dofCount s C) before) before)
   spaced e before =
-      let m = mesh-fine ok in
       let s : Space = spaceOn (x .mesh) e in
+      let f = filled ok e in
+      let m = matched ok e in
       record {
-        dofs-long = dof-list-length s C;
-        dofs-below = dof-below s C;
-        dofs-few = dof-count-le s C;
-        dofs-used = number-written s C;
-        dofs-differ = λ i a b hi ha hb.
-            cell-numbers-differ s i
-            (λ p q hp hq n z. n (vertices-differ (x .mesh .cellVertices) i (m .apart i hi) p q hp hq z))
-            (λ p q hp hq n z. n (edges-differ (x .mesh) m i hi p q hp hq z))
-            C a b hi ha hb;
-        dofs-shared = λ i p j r q hi hp hj hr same hq. shared-numbers s C i p q hi hp hq j r hj hr same;
+        dofs-long = dof-list-length s C f;
+        dofs-sum = cells-dofs ok e C (le-refl C);
+        dofs-below = dof-below s C f m;
+        dofs-few = dof-count-le s C f;
+        dofs-used = number-written s C f;
+        dofs-differ = λ i a b hi ha hb. cell-numbers-differ s C i f m hi (corners-differ i hi) (sides-differ i hi) a b ha hb;
+        dofs-shared = shared-numbers s C f m;
         owners-named = λ i p q d hi hp hq hd.
-            let k : ℕ = dim e * i + dofsBefore e p + q in
-            List·getD-append (ownerList s C) (drop (3 * dofCount s C) before) 0 (3 * getD (dofList s C) k 0 + d) (owner-inside s i p q d hi hp hq hd)
-            ∙ owner-names s C i p q hi hp hq d hd;
+            List·getD-append (ownerList s C) (drop (3 * dofCount s C) before) 0 (3 * getD (dofList s C) (dofPlace s i p + q) 0 + d) (owner-inside e i p q d hi hp hq hd)
+            ∙ owner-names s C f i p q hi hp hq m d hd;
         owners-tail = drop-at (ownerList s C) (drop (3 * dofCount s C) before) (3 * dofCount s C) (owner-list-length s C);
         colours-long = colours-long s C;
         colours-differ = sharing-differ s C;
       }
     where
-      owner-inside : (s : Space) (i p q d : ℕ) → i < C → p < 7 → q < dofsOn s (7 * i + p) → d < 3
-          → 3 * getD (dofList s C) (dim (s .element) * i + dofsBefore (s .element) p + q) 0 + d < length (ownerList s C)
-      owner-inside s i p q d hi hp hq hd = omega (arith, owner-list-length s C, number-below s C i p q hi hp hq)
+      owner-inside : (e : Element) (i p q d : ℕ) → (let s = spaceOn (x .mesh) e in i < C → p < visitsIn (kind s i) → q < dofsOn (visits s C) (visitOf s i p) → d < 3
+          → 3 * getD (dofList s C) (dofPlace s i p + q) 0 + d < length (ownerList s C))
+      owner-inside e i p q d hi hp hq hd = let s : Space = spaceOn (x .mesh) e in omega (arith, owner-list-length s C, number-below s C (filled ok e) i p q hi hp hq (matched ok e))
 
 -- so it is wherever planning answers with numbers
 pub promised : (x : Planning) (l : Lists) (n : PlanNumbers) → plan x l ≡ ready n → Promised x l n

@@ -10,15 +10,14 @@ use lib.ListN.{length, getD}
 use lib.Dec.{leb, eqb}
 use lib.Ieee.{Float}
 use borrow.Author.Tests.{le-leb, lt-ltb, eq-eqb, eqb-false, not-true}
-use Rattle.lists.specs.Bool.{_and_, _or_, every, every-at, every-of, end, _also_, true≢false, and-left, or-left, or-right, cases}
+use Rattle.lists.specs.Bool.{_and_, _or_, every, every-at, every-of, end, _also_, true≢false, or-left, or-right, cases}
 use Rattle.lists.specs.Fold.{over-agree}
 use Rattle.lists.specs.Refusals.{Check, check, refusal, unless, refusal-at}
-use Rattle.grid.specs.Shape.{share}
 use Rattle.grid.specs.Mesh.{cellsRight, verticesRight, edgesRight}
 use Rattle.numbers.specs.Ranges.{allBelow}
 use Rattle.function.specs.Elements.{dim}
 use Rattle.dof_numbering.specs.Numbering.{dofList, dofCount}
-use Rattle.dof_numbering.specs.Promises.{dof-list-length, dof-count-le}
+use Rattle.cell_pairs.specs.Patterns.{touch}
 use Rattle.lent_numbers.specs.Lent.{Touching, Distant}
 use Rattle.lent_numbers.specs.Entries.{touchingEntry, distantEntry}
 use Rattle.scatter.specs.Adding.{addLocal}
@@ -28,7 +27,7 @@ use Rattle.cell_pairs.specs.WorkList.{distantPairs}
 use Rattle.cell_pairs.specs.RecordsFacts.{flat-at, length-flat}
 use Rattle.cell_pairs.specs.Counting.{split}
 use Rattle.plans.specs.Planning.{Planning, Lists, planNumbers, unlessRefused, testSpace, trialSpace}
-use Rattle.plans.specs.Accepted.{Accepted}
+use Rattle.plans.specs.Accepted.{dofs-long, dofs-few, Accepted}
 use Rattle.runs.specs.Runs.{Run, Plan, EntryLists, Answer, found, answered, begin, beginEntries, begun, recordOf, testDofsOf, trialDofsOf, written, cellDofs, isTouching, isDistant, rangesRight, placesRight, planRight, matrixRight, entriesRight, pairLeft, recordKnown, recordRight, stateChecks, lookRefusal, distantRefusal, touchingRefusal, entriesRefusal, advance, look, addDistant, addTouching, addEntries, distantMatrix, touchingMatrix, entriesWritten}
 use Rattle.runs.specs.CellDofs.{cell-below}
 use Rattle.runs.specs.Calls.{Call, looks, addsDistant, addsTouching, addsEntries, Progress, replyTo, matrixAfter, listsAfter, call, callAll}
@@ -44,9 +43,9 @@ pub record Along (x : Planning) (W : List WorkRecord) : Type 0 where
   pub test : (p : ℕ) → p < pairCount x → getD W p (rec 0 0 0) .test < x .mesh .cells
   pub trial : (p : ℕ) → p < pairCount x → getD W p (rec 0 0 0) .trial < x .mesh .cells
   pub distant : (p : ℕ) → p < pairCount x
-      → isDistant (getD W p (rec 0 0 0) .pattern) ≡ not (share (x .mesh .cellVertices) (getD W p (rec 0 0 0) .test) (getD W p (rec 0 0 0) .trial))
+      → isDistant (getD W p (rec 0 0 0) .pattern) ≡ not (touch (x .mesh) (getD W p (rec 0 0 0) .test) (getD W p (rec 0 0 0) .trial))
   pub touching : (p : ℕ) → p < pairCount x
-      → isTouching (getD W p (rec 0 0 0) .pattern) ≡ share (x .mesh .cellVertices) (getD W p (rec 0 0 0) .test) (getD W p (rec 0 0 0) .trial)
+      → isTouching (getD W p (rec 0 0 0) .pattern) ≡ touch (x .mesh) (getD W p (rec 0 0 0) .test) (getD W p (rec 0 0 0) .trial)
 
 -- the plan along the list, and a run of either kind begun from planning's numbers
 unfoldable pub planAlong : Planning → List WorkRecord → Plan
@@ -103,15 +102,15 @@ module _ (x : Planning) (l : Lists) (ok : Accepted x l) (W : List WorkRecord) (a
   ranges-right : (p : ℕ) → rangesRight (runAt x entries p) ≡ true
   unfolding rangesRight runAt planNumbers cellsRight verticesRight edgesRight
   ranges-right p =
-      every-of (and-left _ _ (ok .cells) also every-at _ (ok .vertices) 0 also every-at _ (ok .edges) 0 also ok .dims also ok .integrand also end)
+      every-of (ok .cells also every-at _ (ok .vertices) 0 also every-at _ (ok .edges) 0 also ok .dims also ok .integrand also end)
 
   places-right : (p : ℕ) → Between x entries p → placesRight (runAt x entries p) ≡ true
   unfolding placesRight runAt planNumbers
   places-right p h =
       let most : distantPairs (x .mesh) ≤ pairCount x = omega (arith, split (x .mesh)) in
       every-of
-      (le-leb _ _ (h .to) also le-leb _ _ most also kind-right entries (h .from) also le-leb _ _ (dof-count-le (testSpace x) C)
-      also le-leb _ _ (dof-count-le (trialSpace x) C) also end)
+      (le-leb _ _ (h .to) also le-leb _ _ most also kind-right entries (h .from) also le-leb _ _ (dofs-few ok (x .test))
+      also le-leb _ _ (dofs-few ok (x .trial)) also end)
     where
       -- an entries run has p from N on
       kind-right : (b : Bool) → (b ≡ true → distantPairs (x .mesh) ≤ p) → not b or leb (distantPairs (x .mesh)) p ≡ true
@@ -122,7 +121,7 @@ module _ (x : Planning) (l : Lists) (ok : Accepted x l) (W : List WorkRecord) (a
   unfolding planRight runAt planNumbers planAlong
   plan-right p =
       let all-pairs : length (flat W) ≡ width * pairCount x = length-flat W ∙ ap (λ (n : ℕ). width * n) (along .long) in
-      every-of (eq-eqb _ _ (dof-list-length (testSpace x) C) also eq-eqb _ _ (dof-list-length (trialSpace x) C) also eq-eqb _ _ all-pairs also end)
+      every-of (eq-eqb _ _ (dofs-long ok (x .test)) also eq-eqb _ _ (dofs-long ok (x .trial)) also eq-eqb _ _ all-pairs also end)
 
   module _ (p : ℕ) (below : p < pairCount x) where
     -- what the program reads is record p
@@ -134,15 +133,15 @@ module _ (x : Planning) (l : Lists) (ok : Accepted x l) (W : List WorkRecord) (a
     pattern-right : isTouching (getD W p (rec 0 0 0) .pattern) or isDistant (getD W p (rec 0 0 0) .pattern) ≡ true
     pattern-right =
         ⊎-elim (λ t. or-left _ _ (along .touching p below ∙ t)) (λ f. or-right _ _ (along .distant p below ∙ ap not f))
-        (cases (share (x .mesh .cellVertices) (getD W p (rec 0 0 0) .test) (getD W p (rec 0 0 0) .trial)))
+        (cases (touch (x .mesh) (getD W p (rec 0 0 0) .test) (getD W p (rec 0 0 0) .trial)))
 
     test-below : allBelow (cellDofs (planAlong x W .testDofs) (dim (x .test)) (getD W p (rec 0 0 0) .test)) (dofCount (testSpace x) C) ≡ true
     unfolding planAlong
-    test-below = cell-below (testSpace x) C _ (along .test p below)
+    test-below = cell-below ok (x .test) _ (along .test p below)
 
     trial-below : allBelow (cellDofs (planAlong x W .trialDofs) (dim (x .trial)) (getD W p (rec 0 0 0) .trial)) (dofCount (trialSpace x) C) ≡ true
     unfolding planAlong
-    trial-below = cell-below (trialSpace x) C _ (along .trial p below)
+    trial-below = cell-below ok (x .trial) _ (along .trial p below)
 
     record-right : recordRight (runAt x entries p) (planAlong x W) ≡ true
     unfolding recordRight recordKnown runAt planNumbers

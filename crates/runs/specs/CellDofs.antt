@@ -11,9 +11,11 @@ use lib.Dec.{ltb}
 use borrow.Author.Tests.{lt-ltb}
 use Rattle.lists.specs.Bounded.{all-of}
 use Rattle.numbers.specs.Ranges.{allBelow}
-use Rattle.function.specs.Elements.{dim, Space}
+use Rattle.function.specs.declared.Element.{Element}
+use Rattle.function.specs.Elements.{dim}
 use Rattle.dof_numbering.specs.Numbering.{dofList, dofCount}
-use Rattle.dof_numbering.specs.Promises.{dof-below}
+use Rattle.plans.specs.Planning.{Planning, Lists, spaceOn}
+use Rattle.plans.specs.Accepted.{Accepted, dofs-below}
 use Rattle.runs.specs.Runs.{cellDofs}
 
 -- they lie within the list
@@ -33,13 +35,19 @@ unfolding cellDofs
 length-cell dofs d i = omega (arith, length-take d (drop (d * i) dofs))
 
 -- of the numbering they are below the count
-pub cell-below : (s : Space) (C i : ℕ) → i < C → allBelow (cellDofs (dofList s C) (dim (s .element)) i) (dofCount s C) ≡ true
-unfolding allBelow
-cell-below s C i h =
-    all-of (length (cellDofs (dofList s C) (dim (s .element)) i)) (λ k. ltb (getD (cellDofs (dofList s C) (dim (s .element)) i) k 0) (dofCount s C)) one
-  where
-    one : (k : ℕ) → k < length (cellDofs (dofList s C) (dim (s .element)) i) → ltb (getD (cellDofs (dofList s C) (dim (s .element)) i) k 0) (dofCount s C) ≡ true
-    one k l =
-        let inside : k < dim (s .element) = omega (arith, length-cell (dofList s C) (dim (s .element)) i) in
-        let place : dim (s .element) * i + k < C * dim (s .element) = rw (mul-comm C (dim (s .element))) (omega (arith, mul-le-mul-left (dim (s .element)) h)) in
-        rw (cell-dof (dofList s C) (dim (s .element)) i k inside) (lt-ltb _ _ (dof-below s C (dim (s .element) * i + k) place))
+module _ {x : Planning} {l : Lists} (ok : Accepted x l) (e : Element) where
+  abbrev C : ℕ
+  C = x .mesh .cells
+
+  abbrev dofs : List ℕ
+  dofs = dofList (spaceOn (x .mesh) e) C
+
+  pub cell-below : (i : ℕ) → i < C → allBelow (cellDofs dofs (dim e) i) (dofCount (spaceOn (x .mesh) e) C) ≡ true
+  unfolding allBelow
+  cell-below i h = all-of (length (cellDofs dofs (dim e) i)) (λ k. ltb (getD (cellDofs dofs (dim e) i) k 0) (dofCount (spaceOn (x .mesh) e) C)) one
+    where
+      one : (k : ℕ) → k < length (cellDofs dofs (dim e) i) → ltb (getD (cellDofs dofs (dim e) i) k 0) (dofCount (spaceOn (x .mesh) e) C) ≡ true
+      one k l =
+          let inside : k < dim e = omega (arith, length-cell dofs (dim e) i) in
+          let place : dim e * i + k < C * dim e = rw (mul-comm C (dim e)) (omega (arith, mul-le-mul-left (dim e) h)) in
+          rw (cell-dof dofs (dim e) i k inside) (lt-ltb _ _ (dofs-below ok e (dim e * i + k) place))

@@ -10,19 +10,18 @@ use mathlib.Core.List.{List, [], _∷_, _++_, flatMap, map, append-nil, append-a
 use lib.ListN.{length, getD, take, length-append}
 use lib.Seq.{sets, take-all, getD-append-add}
 use lib.Ieee.{Float}
-use lib.Dec.{eqb}
-use borrow.Author.Tests.{eqb-true, eq-eqb}
-use Rattle.lists.specs.Bool.{_and_, every-at, true≢false, cases, and-left, and-right}
-use Rattle.lists.specs.Bounded.{some-at}
+use borrow.Author.Tests.{eqb-true}
+use Rattle.lists.specs.Bool.{_and_, every-at, true≢false, cases, and-right}
 use Rattle.lists.specs.Total.{total, gate, count-split}
 use Rattle.numbers.specs.Ranges.{within-low}
-use Rattle.grid.specs.Mesh.{mostCells, cellsRight}
-use Rattle.grid.specs.Shape.{entity, has, share}
+use Rattle.grid.specs.Mesh.{corners, mostCells, cellsRight}
+use Rattle.grid.specs.CellsFacts.{has-at, share-at}
+use Rattle.grid.specs.Facts.{corners-length}
+use Rattle.cell_pairs.specs.Patterns.{touch}
 use Rattle.lists.specs.Refusals.{refusal, refusal-at}
 use Rattle.lists.specs.Range.{when, flatMap-append, flatMap-one, flatMap-take}
 use Rattle.lists.specs.Stores.{sets-append, sets-all}
 use Rattle.function.specs.Colours.{colourList}
-use Rattle.dof_numbering.specs.Promises.{dof-list-length}
 use Rattle.lent_numbers.specs.Lent.{Touching}
 use Rattle.cell_pairs.specs.declared.WorkRecord.{WorkRecord}
 use Rattle.cell_pairs.specs.Records.{rec}
@@ -31,7 +30,7 @@ use Rattle.cell_pairs.specs.WorkRecords.{ofPair}
 use Rattle.cell_pairs.specs.Counting.{split, length-distant, length-touching, once-touching, record-touching}
 use Rattle.scatter.specs.AddingFacts.{length-localRows, length-localColumns, length-localValues}
 use Rattle.plans.specs.Planning.{Planning, Lists, testSpace, trialSpace, workRecords}
-use Rattle.plans.specs.Accepted.{Accepted, counted}
+use Rattle.plans.specs.Accepted.{mesh-fine, dofs-long, Accepted, counted}
 use Rattle.runs.specs.Runs.{EntryLists, entryLists, Answer, accepted, refused, answered}
 use Rattle.runs.specs.CellDofs.{cell-fits, length-cell-is}
 use Rattle.runs.specs.Calls.{Call, looks, addsDistant, addsTouching, addsEntries}
@@ -191,13 +190,13 @@ module _ {x : Planning} {l : Lists} (ok : Accepted x l) where
     unfolding machineAlong
     test-long =
         let near = record-touching (x .mesh) (x .batch) _ _ (counted ok) (N + j) (omega arith) below in
-        length-cell-is _ _ _ (cell-fits (x .mesh .cells) _ _ _ (dof-list-length (testSpace x) (x .mesh .cells)) (rw (← record-is j) (near .testCell)))
+        length-cell-is _ _ _ (cell-fits (x .mesh .cells) _ _ _ (dofs-long ok (x .test)) (rw (← record-is j) (near .testCell)))
 
     trial-long : length (m .trialDofs (met .trial)) ≡ m .trialDim
     unfolding machineAlong
     trial-long =
         let near = record-touching (x .mesh) (x .batch) _ _ (counted ok) (N + j) (omega arith) below in
-        length-cell-is _ _ _ (cell-fits (x .mesh .cells) _ _ _ (dof-list-length (trialSpace x) (x .mesh .cells)) (rw (← record-is j) (near .trialCell)))
+        length-cell-is _ _ _ (cell-fits (x .mesh .cells) _ _ _ (dofs-long ok (x .trial)) (rw (← record-is j) (near .trialCell)))
 
     rows-long : length (recordRows m met) ≡ w
     unfolding recordRows
@@ -257,12 +256,14 @@ module _ {x : Planning} {l : Lists} (ok : Accepted x l) where
 
   -- a cell touches itself
   pub some-touching : 0 < length T
-  unfolding share has cellsRight
+  unfolding cellsRight
   some-touching =
       let C : ℕ = x .mesh .cells in
-      let inside : 0 < C = within-low 1 mostCells C (and-left _ _ (ok .cells)) in
-      let l = x .mesh .cellVertices in
-      let itself : share l 0 0 ≡ true = some-at 3 (λ p. has l 0 (entity l 0 p)) 0 (omega arith) (some-at 3 (λ p. eqb (entity l 0 p) (entity l 0 0)) 0 (omega arith) (eq-eqb (entity l 0 0) (entity l 0 0) refl)) in
+      let inside : 0 < C = within-low 1 mostCells C (ok .cells) in
+      let f = mesh-fine ok in
+      let vertex : 0 < length (corners (x .mesh) 0) = omega (arith, corners-length (x .mesh) f 0 inside, f .each 0 inside) in
+      let here = has-at (corners (x .mesh) 0) 0 _ vertex refl in
+      let itself : touch (x .mesh) 0 0 ≡ true = share-at (corners (x .mesh) 0) (corners (x .mesh) 0) _ here here in
       omega (arith, once-touching (x .mesh) (x .batch) _ _ (counted ok) 0 0 inside inside, ap (λ (b : Bool). gate b 1) itself, count-split (ofPair 0 0) T)
 
   -- 21 passes: the lists have room for the entries of all touching records

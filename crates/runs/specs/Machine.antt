@@ -10,7 +10,7 @@ use lib.Ieee.{Float}
 use Rattle.lists.specs.Bool.{_and_, every}
 use Rattle.lists.specs.Fold.{over}
 use Rattle.lists.specs.Refusals.{Check, check, refusal}
-use Rattle.grid.specs.Shape.{share}
+use Rattle.cell_pairs.specs.Patterns.{touch}
 use Rattle.function.specs.Elements.{dim}
 use Rattle.dof_numbering.specs.Numbering.{dofList, dofCount}
 use Rattle.integrands.specs.declared.Integrand.{Integrand}
@@ -52,7 +52,7 @@ machineAlong x W entries =
       work = W;
       pairs = C * C;
       distant = distantPairs (x .mesh);
-      touches = share (x .mesh .cellVertices);
+      touches = touch (x .mesh);
       testDofs = cellDofs (dofList (testSpace x) C) (dim (x .test));
       trialDofs = cellDofs (dofList (trialSpace x) C) (dim (x .trial));
       testDim = dim (x .test);

@@ -2,11 +2,13 @@
 use Prim.Native.Nat.{ℕ, zero, suc}
 use mathlib.Core.Path.{_≡_, refl}
 use mathlib.Core.Bool.{Bool, true, false}
-use mathlib.Core.List.{List, [], _∷_}
+use mathlib.Core.List.{List, [], _∷_, tail}
 use lib.Dec.{eqb}
 use lib.Ieee.{Float}
 use Rattle.lists.specs.Bool.{_and_, _or_, and-left, and-right}
-use Rattle.lists.specs.Refusals.{Check, refusal, unless}
+use Rattle.lists.specs.Refusals.{Check, check, refusal, unless}
+use Rattle.grid.specs.Mesh.{triangles, cellsRight}
+use Rattle.grid.specs.Facts.{triangles-right}
 use Rattle.plans.specs.declared.PlanNumbers.{PlanNumbers}
 use Rattle.plans.specs.Planning.{Planning, Lists, planChecks, planRefusal, planAnswer, plan, planNumbers}
 use Rattle.runs.specs.Runs.{Run, Plan, EntryLists, found, accepted, reply, recordOf, advance, lookRefusal, distantRefusal, touchingRefusal, entriesRefusal, look, addDistant, addTouching, addEntries}
@@ -70,10 +72,13 @@ gathered-number (suc v) n = refl
 
 -- ---- each function
 
-pub plan-among : (test trial : CElement) (f : CIntegrand) (x : Planning) (l : Lists) → among planning (cPlanned test trial f (plan x l) .refusal) ≡ true
-unfolding plan planRefusal among allAmong _and_ _or_
-plan-among test trial f x l =
-    rw (planned-number test trial f (planRefusal x l) (planNumbers x)) (refusal-among planning refl (planChecks x l) refl)
+-- of triangles: 26 turns none down
+pub plan-among : (test trial : CElement) (f : CIntegrand) (x : Planning) (l : Lists) → x .mesh .kinds ≡ triangles (x .mesh .cells)
+    → among planning (cPlanned test trial f (plan x l) .refusal) ≡ true
+unfolding plan planRefusal refusal unless among allAmong _and_ _or_
+plan-among test trial f x l e =
+    rw (planned-number test trial f (planRefusal x l) (planNumbers x), triangles-right (x .mesh) e)
+    (refusal-among planning refl (check 1 (cellsRight (x .mesh)) ∷ tail (tail (planChecks x l))) refl)
 
 pub look-among : (c : CRun) (l : Plan) → among looking (cLooked c (look (runOf c) l) .refusal) ≡ true
 unfolding look lookRefusal among allAmong _and_ _or_

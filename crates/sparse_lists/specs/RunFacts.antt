@@ -12,7 +12,6 @@ use Rattle.lists.specs.Bounded.{all-of}
 use Rattle.lists.specs.Range.{AllIn, all-in-flatMap, all-in-weaken, all-in-places, all-in-at}
 use Rattle.lists.specs.Refusals.{answers, accepted, _then_}
 use Rattle.numbers.specs.Ranges.{allBelow, below-at}
-use Rattle.dof_numbering.specs.Promises.{dof-list-length}
 use Rattle.lent_numbers.specs.Lent.{Touching}
 use Rattle.lent_numbers.specs.Entries.{touchingEntry}
 use Rattle.cell_pairs.specs.declared.WorkRecord.{WorkRecord}
@@ -21,7 +20,8 @@ use Rattle.cell_pairs.specs.WorkRecordsFacts.{touching-each}
 use Rattle.cell_pairs.specs.WorkList.{touchingPart}
 use Rattle.scatter.specs.Adding.{localRows, localColumns}
 use Rattle.scatter.specs.AddingFacts.{length-localRows, length-localColumns, length-localValues}
-use Rattle.plans.specs.Planning.{Planning, testSpace, trialSpace}
+use Rattle.plans.specs.Planning.{Planning, Lists}
+use Rattle.plans.specs.Accepted.{Accepted, dofs-long}
 use Rattle.runs.specs.Runs.{EntryLists, entryLists}
 use Rattle.runs.specs.CellDofs.{cell-fits, length-cell-is, cell-below}
 use Rattle.runs.specs.Machine.{Machine, machineAlong, machineOf}
@@ -93,7 +93,7 @@ module _ (m : Machine) where
 
 -- ---- the touching records of a mesh
 
-module _ (x : Planning) where
+module _ {x : Planning} {l : Lists} (ok : Accepted x l) where
   abbrev m : Machine
   m = machineOf x true
 
@@ -104,8 +104,8 @@ module _ (x : Planning) where
   unfolding machineAlong
   dims e near =
       record {
-        test = length-cell-is _ _ _ (cell-fits (x .mesh .cells) _ _ _ (dof-list-length (testSpace x) (x .mesh .cells)) (near .testCell));
-        trial = length-cell-is _ _ _ (cell-fits (x .mesh .cells) _ _ _ (dof-list-length (trialSpace x) (x .mesh .cells)) (near .trialCell));
+        test = length-cell-is _ _ _ (cell-fits (x .mesh .cells) _ _ _ (dofs-long ok (x .test)) (near .testCell));
+        trial = length-cell-is _ _ _ (cell-fits (x .mesh .cells) _ _ _ (dofs-long ok (x .trial)) (near .trialCell));
       }
 
   all-dims : AllIn (Dims m) T
@@ -115,7 +115,7 @@ module _ (x : Planning) where
   unfolding recordRows localRows machineAlong
   rows-below =
       all-in-flatMap (Near (x .mesh)) (λ k. k < m .rows) (recordRows m)
-      (λ e near. all-in-flatMap (λ _. Unit {0}) (λ k. k < m .rows) _ (λ _ _. all-below _ _ (cell-below (testSpace x) (x .mesh .cells) (e .test) (near .testCell))) _ (all-in-places (λ _. Unit {0}) _ 0 (λ _ _. tt)))
+      (λ e near. all-in-flatMap (λ _. Unit {0}) (λ k. k < m .rows) _ (λ _ _. all-below _ _ (cell-below ok (x .test) (e .test) (near .testCell))) _ (all-in-places (λ _. Unit {0}) _ 0 (λ _ _. tt)))
       T (touching-each (x .mesh))
 
   columns-below : AllIn (λ k. k < m .columns) (flatMap (recordColumns m) T)
@@ -123,7 +123,7 @@ module _ (x : Planning) where
   columns-below =
       all-in-flatMap (Near (x .mesh)) (λ k. k < m .columns) (recordColumns m)
       (λ e near. all-in-flatMap (λ k. k < m .columns) (λ k. k < m .columns) _ (λ column h. all-in-same (λ k. k < m .columns) column h (m .testDofs (e .test))) _
-      (all-below _ _ (cell-below (trialSpace x) (x .mesh .cells) (e .trial) (near .trialCell))))
+      (all-below _ _ (cell-below ok (x .trial) (e .trial) (near .trialCell))))
       T (touching-each (x .mesh))
 
   module _ (ws : List Touching) (each : length ws ≡ length T) where

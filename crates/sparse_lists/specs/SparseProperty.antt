@@ -51,8 +51,8 @@ module _ (x : Planning) (l : Lists) (n : PlanNumbers) (e : plan x l ≡ ready n)
       let ws : List Touching = lentTo (taken calls (q .answers)) in
       let ok : Accepted x l = accepted x l (ready-is e .none) in
       let called : length ws ≡ length (touchingPart (x .mesh)) = omega (arith, p .called, p .position, finished, touching-long ok) in
-      let fit : entriesFit (q .lists) (n .rows) (n .columns) ≡ true = rw (p .all finished, ready-is e .numbers) (pairs-fit x ws called) in
-      let held : (r c : ℕ) → valuesAt (q .lists) r c ≡ touchingAt x calls q r c = λ r c. ap (λ (f : EntryLists). valuesAt f r c) (p .all finished) ∙ pairs-held x ws called r c in
+      let fit : entriesFit (q .lists) (n .rows) (n .columns) ≡ true = rw (p .all finished, ready-is e .numbers) (pairs-fit ok ws called) in
+      let held : (r c : ℕ) → valuesAt (q .lists) r c ≡ touchingAt x calls q r c = λ r c. ap (λ (f : EntryLists). valuesAt f r c) (p .all finished) ∙ pairs-held ok ws called r c in
       record {
         called = called;
         fit = fit;

@@ -4,7 +4,7 @@ use mathlib.Core.Path.{refl}
 use mathlib.Core.List.{List, [], _∷_, _++_, flatMap}
 use lib.ListN.{length, take, replicate}
 use Rattle.lists.specs.Examples.{Example, example, Holds}
-use Rattle.grid.specs.Mesh.{Mesh}
+use Rattle.grid.specs.Mesh.{Mesh, triangles}
 use Rattle.grid.specs.Examples.{M, M7-turned, M7-twice}
 use Rattle.plans.specs.Examples.{opened-plans}
 use Rattle.job.specs.Examples.{opened-job}
@@ -107,7 +107,7 @@ refused-texts =
     ∷ worklist (jobOf M 0)
     ∷ worklist (take 54 (jobOf M 2))
     ∷ worklist (jobOf M 2 ++ 0 ∷ [])
-    ∷ worklist (jobOf (record { cells = 65; vertices = 3; edges = 3; cellVertices = replicate 195 0; cellEdges = replicate 195 0 }) 1)
+    ∷ worklist (jobOf (record { cells = 65; vertices = 3; edges = 3; kinds = triangles 65; cellVertices = replicate 195 0; cellEdges = replicate 195 0 }) 1)
     ∷ [])
     (refused·7 ∷ refused·5 ∷ refused·12 ∷ refused·12 ∷ refused·13 ∷ [])
 

@@ -46,7 +46,7 @@ fromFour x b =
     check 4 (dimsRight (x .test) (x .trial))
     ∷ check 5 (batchRight (x .batch))
     ∷ check 6 (integrandRight (x .integrand))
-    ∷ check 7 (patternsRight (x .mesh .cells) (x .mesh .cellVertices))
+    ∷ check 7 (patternsRight (x .mesh))
     ∷ check 8 b
     ∷ []
 
@@ -65,7 +65,7 @@ same-refusal x l l′ h =
         refusal
         (check 5 (batchRight (x .batch))
         ∷ check 6 (integrandRight (x .integrand))
-        ∷ check 7 (patternsRight (x .mesh .cells) (x .mesh .cellVertices))
+        ∷ check 7 (patternsRight (x .mesh))
         ∷ check 8 b
         ∷ [])
 

@@ -5,6 +5,7 @@ use mathlib.Core.Bool.{true, cond}
 use mathlib.Core.List.{List, [], _∷_, _++_, flatMap}
 use lib.Dec.{ltb}
 use Rattle.lists.specs.Refusals.{refusal}
+use Rattle.grid.specs.Mesh.{triangles}
 use Rattle.cell_pairs.specs.declared.WorkRecord.{WorkRecord}
 use Rattle.integrands.specs.declared.Integrand.{Integrand}
 use Rattle.integrands.specs.declared.Term.the-variants.{Bare}
@@ -37,7 +38,7 @@ bareZero = record { terms = 1; first = Bare 0; second = Bare 0 }
 abbrev pub numbersPlanning : JobNumbers → List ℕ → List ℕ → Planning
 numbersPlanning n cellVertices cellEdges =
     record {
-      mesh = record { cells = n .cells; vertices = n .vertices; edges = n .edges; cellVertices = cellVertices; cellEdges = cellEdges };
+      mesh = record { cells = n .cells; vertices = n .vertices; edges = n .edges; kinds = triangles (n .cells); cellVertices = cellVertices; cellEdges = cellEdges };
       test = n .test;
       trial = n .trial;
       batch = n .batch;

@@ -1,8 +1,8 @@
--- `patterns::pair_right` meets its contract: each return has the tests that led there. Assumes nothing.
+-- `cell_patterns::pair_right` meets its contract: each return has the tests that led there. Assumes nothing.
 use mathlib.Core.Path.{sym, _∙_}
 use native.Mathlib.Nat.{add-zero}
-use Rattle.lists.specs.Bool.{_and_}
-use Rattle.cell_patterns.specs.PatternFacts.{first-missing, rest-missing, none-missing}
+use Rattle.lists.specs.Bool.{_and_, every-fails, turned}
+use Rattle.cell_patterns.specs.PatternFacts.{few-right, first-missing, none-missing}
 use borrow.Author.Needs.{needs}
 use Rattle.cell_patterns.proofs.pair_right.Statement.{statement}
 use Rattle.cell_patterns.proofs.pair_right.Tie as tie
@@ -20,7 +20,7 @@ has-entity-requires : tie.Need-has-entity-requires
 has-entity-requires c κs = search needs
 
 returns : tie.Need-returns
-returns c = let s = c .before .before .before .before in first-missing _ _ _ (s .pre .1 .0) (s .pre .1 .1) (c .before .has-entity .ensures) (c .if1 .taken)
+returns c = let s = c .before .before .before .before in first-missing (s .args .vertices .now) (s .args .i) (s .args .j) (s .pre .1 .0) (s .pre .1 .1) (c .before .has-entity .ensures) (c .if1 .taken)
 
 add-y : tie.Need-add-y
 add-y c = search needs
@@ -31,6 +31,12 @@ mul-y c = search needs
 shared-slice-read-y : tie.Need-shared-slice-read-y
 shared-slice-read-y c = search needs
 
+has-entity-requires-2 : tie.Need-has-entity-requires-2
+has-entity-requires-2 c κs = search needs
+
+returns-2 : tie.Need-returns-2
+returns-2 c = let s = c .before .before .before .before .before .before .before in sym (few-right (s .args .vertices .now) (s .args .i) (s .args .j) (s .pre .1 .0) (s .pre .1 .1) (every-fails _ 1 (turned (c .before .has-entity2 .ensures) (c .if2 .taken))))
+
 add-z : tie.Need-add-z
 add-z c = search needs
 
@@ -40,16 +46,11 @@ mul-z c = search needs
 shared-slice-read-z : tie.Need-shared-slice-read-z
 shared-slice-read-z c = search needs
 
-has-entity-requires-2 : tie.Need-has-entity-requires-2
-has-entity-requires-2 c κs = search needs
-
 has-entity-requires-3 : tie.Need-has-entity-requires-3
 has-entity-requires-3 c κs = search needs
 
-returns-2 : tie.Need-returns-2
-returns-2 c =
-    let s = c .before .before .before .before .before .before .before .before .before in
-    rest-missing _ _ _ (s .pre .1 .0) (s .pre .1 .1) _ _ (c .before .before .has-entity2 .ensures) (c .before .has-entity3 .ensures) (c .if2 .taken)
+returns-3 : tie.Need-returns-3
+returns-3 c = let s = c .before .before .before .before .before .before .before .before .before .before in sym (few-right (s .args .vertices .now) (s .args .i) (s .args .j) (s .pre .1 .0) (s .pre .1 .1) (every-fails _ 2 (turned (c .before .has-entity3 .ensures) (c .if3 .taken))))
 
 mul-own : tie.Need-mul-own
 mul-own c = search needs
@@ -78,14 +79,12 @@ mul-result-3 c = search needs
 shared-slice-read-result-3 : tie.Need-shared-slice-read-result-3
 shared-slice-read-result-3 c = search needs
 
-returns-3 : tie.Need-returns-3
+returns-4 : tie.Need-returns-4
 unfolding _and_
-returns-3 c =
-    let t = c .before .before .before in
-    let f = t .before .before .before .before .before in
-    let s = f .before .before .before .before in
-    let e = none-missing _ _ _ (s .pre .1 .0) (s .pre .1 .1) _ _ _ (f .before .has-entity .ensures) (f .if1 .left) in
-    sym (e (t .before .before .has-entity2 .ensures) (t .before .has-entity3 .ensures) (t .if2 .left) ∙ simp add-zero)
+returns-4 c =
+    let s = c .before .before .before .before .before .before .before .before .before .before .before .before .before in
+    let e = none-missing (s .args .vertices .now) (s .args .i) (s .args .j) (s .pre .1 .0) (s .pre .1 .1) (c .before .before .before .before .before .before .before .before .before .before .has-entity .ensures) (c .before .before .before .before .before .before .before .before .before .if1 .left) (c .before .before .before .before .before .before .before .has-entity2 .ensures) (c .before .before .before .before .before .before .if2 .left) in
+    sym (e (c .before .before .before .before .has-entity3 .ensures) (c .before .before .before .if3 .left) ∙ simp add-zero)
 
 pub pair-right-spec : {M : Type 1} → statement M
 pair-right-spec =
@@ -99,12 +98,13 @@ pair-right-spec =
     add-y
     mul-y
     shared-slice-read-y
+    has-entity-requires-2
+    returns-2
     add-z
     mul-z
     shared-slice-read-z
-    has-entity-requires-2
     has-entity-requires-3
-    returns-2
+    returns-3
     mul-own
     mul-result
     shared-slice-read-result
@@ -114,4 +114,4 @@ pair-right-spec =
     add-result-2
     mul-result-3
     shared-slice-read-result-3
-    returns-3)
+    returns-4)

@@ -44,13 +44,15 @@ pattern-at-requires : tie.Need-pattern-at-requires
 pattern-at-requires c κs =
     let b = c .before .before in
     let a = b .before .before in
-    found-places _ _ _ (a .place-of .ensures) (b .place-of2 .ensures) (c .place-of3 .ensures) (a .before .before .before .pre .1 .1)
+    let s = a .before .before .before in
+    found-places (s .args .vertices .now) (s .args .i) (s .args .j) (a .place-of .ensures) (b .place-of2 .ensures) (c .place-of3 .ensures) (a .before .before .before .pre .1 .1)
 
 returns : tie.Need-returns
 returns c =
     let b = c .before .before .before in
     let a = b .before .before in
-    found-pattern _ _ _ (a .place-of .ensures) (b .place-of2 .ensures) (c .before .place-of3 .ensures) (a .before .before .before .pre .1 .0) (c .pattern-at .ensures)
+    let s = a .before .before .before in
+    found-pattern (s .args .vertices .now) (s .args .i) (s .args .j) (a .place-of .ensures) (b .place-of2 .ensures) (c .before .place-of3 .ensures) (a .before .before .before .pre .1 .0) (c .pattern-at .ensures)
 
 pub pattern-of-spec : {M : Type 1} → statement M
 pattern-of-spec =

@@ -1,54 +1,56 @@
--- `patterns::patterns_right` meets its contract. The invariant of its loop: the rows of the test cells below i pass. Assumes nothing.
-use mathlib.Core.Path.{_≡_, sym}
-use mathlib.Core.Bool.{true}
-use Prim.Native.Nat.{_≤_, _-_}
+-- `cell_patterns::patterns_right` meets its contract: it lends scratch lists of zeros. Assumes nothing.
+use Prim.Native.Nat.{_*_, _/_}
 use native.Mathlib.Omega.{arith}
-use Rattle.lists.specs.Bool.{turned, passed}
-use Rattle.lists.specs.Bounded.{all, all-none, all-more, all-fails, all-done}
-use Rattle.cell_patterns.specs.PatternFacts.{pairRight}
-use Rattle.cell_pairs.specs.Patterns.{patternsRight}
+use mathlib.Core.Path.{_≡_, sym, _∙_}
+use lib.ListN.{length}
+use Rattle.grid.specs.Mesh.{mostCells, mostVertices}
+use Rattle.cells_by_key.specs.GroupsFacts.{scratch, scratch-zeros}
+use borrow.Author.Needs.{needs}
 use Rattle.cell_patterns.proofs.patterns_right.Statement.{statement}
 use Rattle.cell_patterns.proofs.patterns_right.Tie as tie
 
-abbrev Inv-loop : tie.InvT-loop
-Inv-loop cells vertices i₀ i = (i ≤ cells) × (all i (λ k. all cells (λ j. pairRight vertices k j)) ≡ true)
+mul-n : tie.Need-mul-n
+mul-n c = search needs
 
-abbrev μ-loop : tie.MeasureT-loop
-μ-loop cells vertices i₀ i = cells - i
+array-borrow-prefix-order : tie.Need-array-borrow-prefix-order
+array-borrow-prefix-order c = search needs
 
-loop-holds : tie.Need-loop-holds Inv-loop μ-loop
-loop-holds c = (omega arith, all-none _)
+slice-aggregate-sorted-right : tie.Need-slice-aggregate-sorted-right
+slice-aggregate-sorted-right c = sym (scratch _ (3 * mostCells) (omega arith))
 
-row-right-requires : tie.Need-row-right-requires Inv-loop μ-loop
-row-right-requires c κs = let s = c .before .before .before in ((s .pre .0, c .loop-test .taken), s .pre .1)
+array-borrow-prefix-ends : tie.Need-array-borrow-prefix-ends
+array-borrow-prefix-ends c = search needs
 
-returns : tie.Need-returns Inv-loop μ-loop
-unfolding patternsRight
-returns c = sym (all-fails _ _ _ (c .before .before .loop-test .taken) (turned (c .before .row-right .ensures) (c .if1 .taken)))
+slice-aggregate-sorted-right-2 : tie.Need-slice-aggregate-sorted-right-2
+slice-aggregate-sorted-right-2 c = sym (scratch _ mostVertices (omega arith))
 
-add-i : tie.Need-add-i Inv-loop μ-loop
-add-i c = omega arith
+sorted-right-requires : tie.Need-sorted-right-requires
+sorted-right-requires c κs =
+    let pre = c .before .before .before .pre in (
+      rw (scratch _ mostVertices (pre .0 .2)) (pre .1 .0),
+      (
+        scratch-zeros _ mostVertices (pre .0 .2),
+        (
+          (omega (arith, pre .0), omega (arith, pre .0), scratch _ (3 * mostCells) (omega (arith, pre .0)) ∙ sym (pre .0 .0)),
+          record { apart = λ i l. pre .1 .1 i (omega (arith, pre .0 .0)) },
+        ),
+      ),
+    )
 
-loop-less : tie.Need-loop-less Inv-loop μ-loop
-loop-less c = omega arith
-
-loop-again : tie.Need-loop-again Inv-loop μ-loop
-loop-again c = (omega arith, all-more _ _ (c .before .before .before .loop .inv .1) (passed (c .before .row-right .ensures) (c .if1 .left)))
-
-returns-2 : tie.Need-returns-2 Inv-loop μ-loop
-unfolding patternsRight
-returns-2 c = all-done _ _ _ (c .before .loop .inv .1) (omega arith)
+returns : tie.Need-returns
+returns c =
+    let start = c .before .before .before .before .before .before in
+    let e : length (start .args .vertices .now) / 3 ≡ start .args .cells = omega (arith, start .pre .0 .0) in
+    rw e at (c .before .before .sorted-right .ensures)
 
 pub patterns-right-spec : {M : Type 1} → statement M
 patterns-right-spec =
     tie.close
     (tie.spec
-    Inv-loop
-    μ-loop
-    loop-holds
-    row-right-requires
-    returns
-    add-i
-    loop-less
-    loop-again
-    returns-2)
+    mul-n
+    array-borrow-prefix-order
+    slice-aggregate-sorted-right
+    array-borrow-prefix-ends
+    slice-aggregate-sorted-right-2
+    sorted-right-requires
+    returns)

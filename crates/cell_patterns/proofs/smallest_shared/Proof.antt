@@ -62,7 +62,8 @@ returns : tie.Need-returns
 returns c =
     let m = c .before .before .before in
     let l = m .before .before .before in
-    smallest-by _ _ _ _
+    let s = c .before .before .before .before .before .before .before .before .before .before .before .before .before in
+    smallest-by (s .args .vertices .now) (s .args .top) (s .args .i) (s .args .j)
     (l .before .before .has-entity .ensures) (l .before .wide .ensures) (l .lower-of .ensures)
     (m .before .before .has-entity2 .ensures) (m .before .wide2 .ensures) (m .lower-of2 .ensures)
     (c .before .before .has-entity3 .ensures) (c .before .wide3 .ensures) (c .lower-of3 .ensures)

@@ -2,6 +2,7 @@
 use Prim.Native.Nat.{_-_}
 use native.Mathlib.Omega.{arith}
 use lib.ListN.{length}
+use Rattle.grid.specs.Shape.{share}
 use Rattle.lists.specs.Writes.{Turns, turns-start, turns-room, turns-turn, turns-done, wrote-length}
 use Rattle.cell_pairs.specs.RecordsFacts.{records}
 use Rattle.cells_by_key.specs.Groups.{part}
@@ -12,7 +13,7 @@ use Rattle.distant_pairs.proofs.write_rest.Tie as tie
 
 abbrev Inv-loop : tie.InvT-loop
 Inv-loop vertices batch tests order ends work₀ at n next₀ d₀ work next d =
-    Turns records (λ d. distantColours vertices batch tests (part order ends d)) (length ends) work₀ work at next d
+    Turns records (λ d. distantColours (share vertices) batch tests (part order ends d)) (length ends) work₀ work at next d
 
 abbrev μ-loop : tie.MeasureT-loop
 μ-loop vertices batch tests order ends work₀ at n next₀ d₀ work next d = n - d

@@ -1,6 +1,7 @@
 -- `distant_pairs::write_row` meets its contract. The invariant of its loop: the records of the first k test cells are written. Assumes nothing.
 use Prim.Native.Nat.{_-_}
 use native.Mathlib.Omega.{arith}
+use Rattle.grid.specs.Shape.{share}
 use Rattle.lists.specs.Writes.{Each, each-start, each-in, each-room, each-turn, each-done, wrote-length}
 use Rattle.cell_pairs.specs.RecordsFacts.{records}
 use Rattle.cell_pairs.specs.WorkList.{distantPair}
@@ -11,7 +12,7 @@ use Rattle.distant_pairs.proofs.write_row.Statement.{statement}
 use Rattle.distant_pairs.proofs.write_row.Tie as tie
 
 abbrev Inv-loop : tie.InvT-loop
-Inv-loop vertices tests trial work₀ at corner a b c next₀ k₀ k-end work next k = Each records (λ i. distantPair vertices i trial) tests work₀ work at next k-end k
+Inv-loop vertices tests trial work₀ at corner a b c next₀ k₀ k-end work next k = Each records (λ i. distantPair (share vertices) i trial) tests work₀ work at next k-end k
 
 abbrev μ-loop : tie.MeasureT-loop
 μ-loop vertices tests trial work₀ at corner a b c next₀ k₀ k-end work next k = k-end - k

@@ -2,6 +2,7 @@
 use Prim.Native.Nat.{_-_, _<_}
 use native.Mathlib.Omega.{arith}
 use lib.ListN.{length}
+use Rattle.grid.specs.Shape.{share}
 use Rattle.lists.specs.Range.{batch}
 use Rattle.lists.specs.Writes.{Turns, turns-start, turns-room, turns-turn, turns-done, wrote-length}
 use Rattle.cell_pairs.specs.RecordsFacts.{records}
@@ -14,7 +15,7 @@ use Rattle.distant_pairs.proofs.write_trials.Tie as tie
 
 abbrev Inv-loop : tie.InvT-loop
 Inv-loop vertices size tests trials work₀ at next₀ d₀ work next d =
-    Turns records (λ d. distantBatch vertices tests (batch size d trials)) (batchCount size (length trials)) work₀ work at next d
+    Turns records (λ d. distantBatch (share vertices) tests (batch size d trials)) (batchCount size (length trials)) work₀ work at next d
 
 abbrev μ-loop : tie.MeasureT-loop
 μ-loop vertices size tests trials work₀ at next₀ d₀ work next d = batchCount size (length trials) - d

@@ -1,7 +1,7 @@
 -- `function::Element::dim` meets its contract. Assumes nothing.
 use native.Mathlib.Omega.{arith}
 use borrow.Author.Needs.{needs}
-use Rattle.function.specs.Elements.{dim}
+use Rattle.function.specs.Elements.{dimOf}
 use Rattle.function.proofs.Element.dim.Statement.{statement}
 use Rattle.function.proofs.Element.dim.Tie as tie
 
@@ -27,7 +27,7 @@ add-result-2 : tie.Need-add-result-2
 add-result-2 c = search needs
 
 returns : tie.Need-returns
-unfolding dim
+unfolding dimOf
 returns c = omega (arith, c .wide3 .ensures)
 
 pub dim-spec : {M : Type 1} → statement M

@@ -1,69 +1,56 @@
--- `function::colouring::colour_cells` meets its contract. The invariant: the first i colours are stored; a turn is `filled-more`. Assumes nothing.
-use Prim.Native.Nat.{_-_, _≤_}
+-- `function::colouring::colour_cells` meets its contract: it lends fronts of two lists. Assumes nothing.
 use native.Mathlib.Omega.{arith}
-use Rattle.grid.specs.Shape.{share}
-use Rattle.function.specs.ColoursFacts.{Filled, filled-none, filled-more, filled-all, front-le, smallest-le}
+use mathlib.Core.Path.{sym, _∙_}
+use lib.Seq.{length-take-le}
 use borrow.Author.Needs.{needs}
 use Rattle.function.proofs.colouring.colour_cells.Statement.{statement}
 use Rattle.function.proofs.colouring.colour_cells.Tie as tie
 
-abbrev Inv-loop : tie.InvT-loop
-Inv-loop list cells colours₀ i₀ colours i = Filled (share list) colours₀ colours i
+mul-n : tie.Need-mul-n
+mul-n c = search needs
 
-abbrev μ-loop : tie.MeasureT-loop
-μ-loop list cells colours₀ i₀ colours i = cells - i
+slice-relend-prefix-colour-sorted : tie.Need-slice-relend-prefix-colour-sorted
+slice-relend-prefix-colour-sorted c = search needs
 
-loop-holds : tie.Need-loop-holds Inv-loop μ-loop
-loop-holds c = filled-none _ _
+slice-aggregate-colour-sorted : tie.Need-slice-aggregate-colour-sorted
+slice-aggregate-colour-sorted c = let pre = c .before .before .before .before .before .pre in sym (length-take-le _ _ (omega (arith, pre .0 .cells, pre .1 .places)))
 
-next-colour-requires : tie.Need-next-colour-requires Inv-loop μ-loop
-next-colour-requires c κs =
-    record {
-      cell = omega arith;
-      place = omega arith;
-      below = omega arith;
-      low = λ j l. omega (arith, front-le (c .before .before .loop .inv) j l);
-    }
+slice-relend-prefix-colour-sorted-2 : tie.Need-slice-relend-prefix-colour-sorted-2
+slice-relend-prefix-colour-sorted-2 c = search needs
 
-cast-colours : tie.Need-cast-colours Inv-loop μ-loop
-cast-colours c =
-    let b : c .next-colour .result ≤ c .before .before .before .loop .i = rw (c .next-colour .ensures) (smallest-le _ _ _) in
-    omega arith
+slice-aggregate-colour-sorted-2 : tie.Need-slice-aggregate-colour-sorted-2
+slice-aggregate-colour-sorted-2 c = let pre = c .before .before .before .before .before .before .pre in sym (length-take-le _ _ (omega (arith, pre .0 .groups, pre .1 .entities)))
 
-mul-colours : tie.Need-mul-colours Inv-loop μ-loop
-mul-colours c = search needs
+colour-sorted-requires : tie.Need-colour-sorted-requires
+colour-sorted-requires c κs =
+    let pre = c .before .before .before .before .before .before .before .pre in (
+      rw (length-take-le (c .before .before .before .before .before .before .before .args .top) (c .before .before .before .before .before .before .before .args .ends .now) (omega (arith, pre .0 .groups, pre .1 .entities))) (pre .0 .below),
+      ((omega (arith, pre .0), omega (arith, pre .0)), length-take-le _ _ (omega (arith, pre .0 .cells, pre .1 .places)) ∙ sym (pre .0 .entities)),
+    )
 
-slice-write-colours : tie.Need-slice-write-colours Inv-loop μ-loop
-slice-write-colours c = search needs
+same-length : tie.Need-same-length
+same-length c = search needs
 
-add-i : tie.Need-add-i Inv-loop μ-loop
-add-i c = search needs
+same-length-2 : tie.Need-same-length-2
+same-length-2 c = search needs
 
-loop-less : tie.Need-loop-less Inv-loop μ-loop
-loop-less c = search needs
+same-length-3 : tie.Need-same-length-3
+same-length-3 c = search needs
 
-loop-again : tie.Need-loop-again Inv-loop μ-loop
-loop-again c = filled-more (c .before .before .before .loop .inv) _ (c .next-colour .ensures) (search needs)
-
-same-length : tie.Need-same-length Inv-loop μ-loop
-same-length c = c .before .loop .inv .long
-
-returns : tie.Need-returns Inv-loop μ-loop
-returns c = filled-all (c .before .loop .inv) _ (omega arith) (search needs)
+returns : tie.Need-returns
+returns c = rw (c .before .before .before .before .before .before .before .before .before .before .before .before .before .before .pre .0 .places) at (c .before .before .before .before .before .before .colour-sorted .ensures)
 
 pub colour-cells-spec : {M : Type 1} → statement M
 colour-cells-spec =
     tie.close
     (tie.spec
-    Inv-loop
-    μ-loop
-    loop-holds
-    next-colour-requires
-    cast-colours
-    mul-colours
-    slice-write-colours
-    add-i
-    loop-less
-    loop-again
+    mul-n
+    slice-relend-prefix-colour-sorted
+    slice-aggregate-colour-sorted
+    slice-relend-prefix-colour-sorted-2
+    slice-aggregate-colour-sorted-2
+    colour-sorted-requires
     same-length
+    same-length-2
+    same-length-3
     returns)

@@ -1,18 +1,23 @@
 -- `function::colouring::next_colour` meets its contract, by `marks-smallest`. Assumes nothing.
+use native.Mathlib.Omega.{arith}
 use mathlib.Core.Path.{_∙_}
-use Rattle.function.specs.ColoursFacts.{marks-smallest}
+use Rattle.function.specs.ColoursFacts.{marks-smallest, marks-next}
 use borrow.Author.Needs.{needs}
 use Rattle.function.proofs.colouring.next_colour.Statement.{statement}
 use Rattle.function.proofs.colouring.next_colour.Tie as tie
 
-used-colours-requires : tie.Need-used-colours-requires
-used-colours-requires c κs = search needs
+mark-sharing-requires : tie.Need-mark-sharing-requires
+mark-sharing-requires c κs = search needs
 
-first-unused-requires : tie.Need-first-unused-requires
-first-unused-requires c κs = search needs
+first-unmarked-requires : tie.Need-first-unmarked-requires
+first-unmarked-requires c κs = search needs
 
 returns : tie.Need-returns
-returns c = c .first-unused .ensures ∙ marks-smallest (search needs) (c .before .before .used-colours .ensures)
+returns c =
+    let start = c .before .before .before .before .before .before .before .before in
+    let low = start .pre .1 .1 .1 in
+    let marked = c .before .before .mark-sharing .ensures in
+    (c .first-unmarked .ensures ∙ marks-smallest _ _ _ (omega (arith, start .pre .1 .1 .0 .below)) low marked, marks-next marked low)
 
 pub next-colour-spec : {M : Type 1} → statement M
-next-colour-spec = tie.close (tie.spec used-colours-requires first-unused-requires returns)
+next-colour-spec = tie.close (tie.spec mark-sharing-requires first-unmarked-requires returns)

@@ -7,15 +7,16 @@ use Rattle.grid.proofs.checks.edges_sized.Tie as tie
 is-within-requires : tie.Need-is-within-requires
 is-within-requires c κs = search needs
 
-mul-result : tie.Need-mul-result
-mul-result c = search needs
+count-places-requires : tie.Need-count-places-requires
+count-places-requires c κs = search needs
 
 all-below-requires : tie.Need-all-below-requires
 all-below-requires c κs = search needs
 
 returns : tie.Need-returns
 unfolding every _and_
-returns c = rw (c .all-below .ensures, c .before .is-within .ensures)
+returns c = rw (c .all-below .ensures, c .before .count-places .ensures, c .before .before .is-within .ensures)
 
 pub edges-sized-spec : {M : Type 1} → statement M
-edges-sized-spec = tie.close (tie.spec is-within-requires mul-result all-below-requires returns)
+edges-sized-spec =
+    tie.close (tie.spec is-within-requires count-places-requires all-below-requires returns)

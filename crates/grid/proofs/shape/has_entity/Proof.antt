@@ -2,7 +2,7 @@
 use native.Mathlib.Nat.{add-zero}
 use Rattle.lists.specs.Bool.{_or_}
 use Rattle.lists.specs.Bounded.{some}
-use Rattle.grid.specs.Shape.{has}
+use Rattle.grid.specs.Cells.{has}
 use borrow.Author.Needs.{needs}
 use Rattle.grid.proofs.shape.has_entity.Statement.{statement}
 use Rattle.grid.proofs.shape.has_entity.Tie as tie

@@ -20,14 +20,14 @@ by-key-requires c κs =
     let pre = c .before .before .before .before .before .before .before .before .before .before .pre in
     let r = pre .0 in
     let s = pre .1 .0 in
-    (colours-below _ (r .counts .testColours) (r .test) s, (s .zeros, (omega arith, omega (arith, r .cells, r .counts .testColours), omega (arith, s .cells, r .counts .testColours))))
+    (colours-below _ (r .test) s, (s .zeros, (omega arith, omega (arith, r .cells, r .counts .testColours), omega (arith, s .cells, r .counts .testColours))))
 
 by-key-requires-2 : tie.Need-by-key-requires-2
 by-key-requires-2 c κs =
     let pre = start (c .before .before .before .before .before .before) .pre in
     let r = pre .0 in
     let s = pre .1 .1 in
-    (colours-below _ (r .counts .trialColours) (r .trial) s, (s .zeros, (omega arith, omega (arith, r .cells, r .counts .trialColours), omega (arith, s .cells, r .counts .trialColours))))
+    (colours-below _ (r .trial) s, (s .zeros, (omega arith, omega (arith, r .cells, r .counts .trialColours), omega (arith, s .cells, r .counts .trialColours))))
 
 write-distant-requires : tie.Need-write-distant-requires
 write-distant-requires c κs =
