@@ -12,13 +12,15 @@
 //
 // A file is words of 16 hexadecimal digits, a blank or a line end after each: a line with the number of cases, then a line a case.
 //     word 0      C, V, E and batch, four digits each
-//     word 1      digits: test a, b, c; trial a, b, c; number of terms; form (0 bare, 1 with a factor) and kind of the first term, the same of the second;
-//                 0 for a dense run or 1 for an entries run; planning's refusal; three zeros
+//     word 1      digits: test a, b, c and trial a, b, c of triangles; number of terms; form (0 bare, 1 with a factor) and kind of the first term, the same of
+//                 the second; 0 for a dense run or 1 for an entries run; planning's refusal, two digits; two zeros
 //     words 2, 3  the factors of the two terms (0 for a bare one)
+//     word 4      digits: test a, b, c and trial a, b, c of quads; ten zeros
 //     twenty numbers, four in a word: lengths of cell vertices (and of cell edges), test DOFs, trial DOFs, colours (each), test owners, trial owners, work list,
 //                 calls, pool, matrix, entry lists (each), answers; the position after the last call; lengths of row starts, columns and values of the sparse
-//                 rows; what gathering them answers: 0 0 where it is not asked, 1 and how many values are kept, or 2 and the refusal; two zeros
-//     then        cell vertices, cell edges and calls, as numbers; pool and matrix, as floats;
+//                 rows; what gathering them answers: 0 0 where it is not asked, 1 and how many values are kept, or 2 and the refusal; the length of the kind
+//                 list; a zero
+//     then        kinds, cell vertices, cell edges and calls, as numbers; pool and matrix, as floats;
 //                 after the calls answers, as numbers; matrix, as floats; entry rows and columns, as numbers; entry values, as floats;
 //                 and of the sparse rows, before they are written and after, row starts, as words; columns, as numbers; values, as floats
 // Numbers of a list stand four in a word, and the last word of a list is filled up with zeros. A float is written by its bits, and each NaN as 7ff8000000000000.
@@ -33,71 +35,101 @@
 #include <stdlib.h>
 #include <string.h>
 
-enum { CELLS = 8, DIM = 10, CALLS = 160, POOL = 1200, MATRIX = 300, ENTRIES = 600, STARTS = 24, BLOCKS = 12, NOTHING = 65535 };
+enum { CELLS = 8, DIM = 10, CALLS = 160, POOL = 1200, MATRIX = 300, ENTRIES = 600, STARTS = 24, BLOCKS = 16, NOTHING = 65535 };
 enum { LOOK = 0, DISTANT = 1, TOUCHING = 2, WRITE = 3 };
 
-// ---- the mesh: edges are numbered as they are met
+// ---- the mesh: the kind of a cell, 3 or 4, is how many vertices and edges it has; edges are numbered as they are met
 
-static int C, V, E, vert[CELLS][3], edge[CELLS][3];
-static const int ends[3][2] = { { 1, 2 }, { 0, 2 }, { 0, 1 } };
+static int C, V, E, kind[CELLS], vert[CELLS][4], edge[CELLS][4];
+static const int triangle_ends[3][2] = { { 1, 2 }, { 0, 2 }, { 0, 1 } }, quad_ends[4][2] = { { 0, 1 }, { 0, 2 }, { 1, 3 }, { 2, 3 } };
+
+// the two local vertices that local edge g of a cell of kind n joins
+static const int *ends(int n, int g) { return n == 3 ? triangle_ends[g] : quad_ends[g]; }
 
 static int joins_same(int i, int g, int j, int h) {
-    int a = vert[i][ends[g][0]], b = vert[i][ends[g][1]], c = vert[j][ends[h][0]], d = vert[j][ends[h][1]];
+    const int *x = ends(kind[i], g), *y = ends(kind[j], h);
+    int a = vert[i][x[0]], b = vert[i][x[1]], c = vert[j][y[0]], d = vert[j][y[1]];
     return (a == c && b == d) || (a == d && b == c);
 }
 
-static void set_mesh(int cells, const int *vertices) {
-    C = cells;
-    V = E = 0;
-    for (int k = 0; k < 3 * C; k++) {
-        vert[k / 3][k % 3] = vertices[k];
-        if (V <= vertices[k]) V = vertices[k] + 1;
-    }
-    for (int k = 0; k < 3 * C; k++) {
-        int number = -1;
-        for (int l = 0; l < k; l++)
-            if (joins_same(k / 3, k % 3, l / 3, l % 3)) number = edge[l / 3][l % 3];
-        edge[k / 3][k % 3] = number < 0 ? E++ : number;
-    }
+static int edge_number(int i, int g) {
+    for (int j = 0; j <= i; j++)
+        for (int h = 0; h < kind[j] && (j < i || h < g); h++)
+            if (joins_same(i, g, j, h)) return edge[j][h];
+    return E++;
 }
 
-static int meet(int list[CELLS][3], int i, int j) {
-    for (int p = 0; p < 9; p++)
-        if (list[i][p / 3] == list[j][p % 3]) return 1;
+static void set_mesh(int cells, const int *kinds, const int *vertices) {
+    C = cells;
+    V = E = 0;
+    for (int i = 0; i < C; i++) {
+        kind[i] = kinds[i];
+        for (int v = 0; v < kind[i]; v++) {
+            vert[i][v] = *vertices++;
+            if (V <= vert[i][v]) V = vert[i][v] + 1;
+        }
+    }
+    for (int i = 0; i < C; i++)
+        for (int g = 0; g < kind[i]; g++) edge[i][g] = edge_number(i, g);
+}
+
+static int meet(int list[CELLS][4], int i, int j) {
+    for (int p = 0; p < kind[i]; p++)
+        for (int q = 0; q < kind[j]; q++)
+            if (list[i][p] == list[j][q]) return 1;
     return 0;
 }
 
-// ---- elements: DOFs and colours
+// ---- elements, one for each kind: DOFs and colours
 
-struct element { int a, b, c, dim, count, dof[CELLS][DIM], colour[CELLS]; };
+struct form { int a, b, c; };
+struct element { struct form triangle, quad; int dim[CELLS], count, places, dof[CELLS][DIM], colour[CELLS]; };
+
+static struct form form_of(const struct element *e, int n) { return n == 3 ? e->triangle : e->quad; }
+
+static int dim_of(const struct element *e, int n) {
+    struct form f = form_of(e, n);
+    return n * f.a + n * f.b + f.c;
+}
 
 static void number_dofs(struct element *e) {
-    int of_vertex[3 * CELLS], of_edge[3 * CELLS], next = 0;
+    int of_vertex[4 * CELLS], of_edge[4 * CELLS], next = 0;
     memset(of_vertex, -1, sizeof of_vertex);
     memset(of_edge, -1, sizeof of_edge);
-    e->dim = 3 * e->a + 3 * e->b + e->c;
+    e->places = 0;
     for (int i = 0; i < C; i++) {
+        struct form f = form_of(e, kind[i]);
         int k = 0;
-        for (int v = 0; v < 3; v++) {
+        for (int v = 0; v < kind[i]; v++) {
             int *first = &of_vertex[vert[i][v]];
-            if (*first < 0) { *first = next; next += e->a; }
-            for (int q = 0; q < e->a; q++) e->dof[i][k++] = *first + q;
+            if (*first < 0) { *first = next; next += f.a; }
+            for (int q = 0; q < f.a; q++) e->dof[i][k++] = *first + q;
         }
-        for (int g = 0; g < 3; g++) {
+        for (int g = 0; g < kind[i]; g++) {
             int *first = &of_edge[edge[i][g]];
-            if (*first < 0) { *first = next; next += e->b; }
-            for (int q = 0; q < e->b; q++) e->dof[i][k++] = *first + q;
+            if (*first < 0) { *first = next; next += f.b; }
+            for (int q = 0; q < f.b; q++) e->dof[i][k++] = *first + q;
         }
-        for (int q = 0; q < e->c; q++) e->dof[i][k++] = next++;
+        for (int q = 0; q < f.c; q++) e->dof[i][k++] = next++;
+        e->dim[i] = k;
+        e->places += k;
     }
     e->count = next;
 }
 
+// the element of the first kind present, triangles first
+static struct form leading(const struct element *e) {
+    for (int i = 0; i < C; i++)
+        if (kind[i] == 3) return e->triangle;
+    return e->quad;
+}
+
 static void colour_cells(struct element *e) {
+    struct form f = leading(e);
     for (int i = 0; i < C; i++) {
         int taken[CELLS + 1] = { 0 }, c = 0;
         for (int j = 0; j < i; j++)
-            if (e->a > 0 ? meet(vert, i, j) : e->b > 0 ? meet(edge, i, j) : 0) taken[e->colour[j]] = 1;
+            if (f.a > 0 ? meet(vert, i, j) : f.b > 0 ? meet(edge, i, j) : 0) taken[e->colour[j]] = 1;
         while (taken[c]) c++;
         e->colour[i] = c;
     }
@@ -112,46 +144,60 @@ static int records, distant_records;
 
 static int smallest_shared(int i, int j) {
     int least = -1;
-    for (int p = 0; p < 3; p++)
-        for (int q = 0; q < 3; q++)
+    for (int p = 0; p < kind[i]; p++)
+        for (int q = 0; q < kind[j]; q++)
             if (vert[i][p] == vert[j][q] && (least < 0 || vert[i][p] < least)) least = vert[i][p];
     return least;
 }
 
-// the local edge that joins two local vertices
-static int edge_of(int p, int q) { return 3 - p - q; }
-
-static int pattern(int i, int j) {
-    int test[3], trial[3], n = 0;
-    for (int q = 0; q < 3; q++)
-        for (int p = 0; p < 3; p++)
-            if (vert[i][p] == vert[j][q]) { test[n] = p; trial[n++] = q; }
-    if (n == 1) return 3 * test[0] + trial[0];
-    if (n == 2) return 9 + 2 * (3 * edge_of(test[0], test[1]) + edge_of(trial[0], trial[1])) + (test[0] > test[1]);
-    return 27;
-}
-
-// cell number k of a colour, the cells rising; -1 past the last
-static int cell_of(const struct element *e, int colour, int k) {
-    for (int i = 0; i < C; i++)
-        if (e->colour[i] == colour && k-- == 0) return i;
+// the local edge of a cell of kind n that joins two local vertices; -1 where none does
+static int edge_of(int n, int p, int q) {
+    for (int g = 0; g < n; g++)
+        if ((ends(n, g)[0] == p && ends(n, g)[1] == q) || (ends(n, g)[0] == q && ends(n, g)[1] == p)) return g;
     return -1;
 }
 
-static void list_work(const struct element *test, const struct element *trial, int batch) {
-    int B = batch < C ? batch : C; // a larger batch holds a whole colour, as this one does
-    records = 0;
+// The number of two cells in the table: the triangle formula with the trial kind for 3, after the start of the block of the two kinds. Of all vertices of cells of
+// one kind, in whatever order, the block's last; of other lists -1. Where either of these is not right planning refuses.
+static int pattern(int i, int j) {
+    int n = kind[i], k = kind[j], start = n == 3 ? (k == 3 ? 0 : 28) : (k == 3 ? 64 : 100), test[4], trial[4], shared = 0;
+    for (int q = 0; q < k; q++)
+        for (int p = 0; p < n; p++)
+            if (vert[i][p] == vert[j][q]) { test[shared] = p; trial[shared++] = q; }
+    if (shared == 1) return start + k * test[0] + trial[0];
+    if (shared == 2) {
+        int e = edge_of(n, test[0], test[1]), g = edge_of(k, trial[0], trial[1]);
+        return e < 0 || g < 0 ? -1 : start + n * k + 2 * (k * e + g) + (test[0] > test[1]);
+    }
+    return n == k && shared == n ? start + 3 * n * k : -1;
+}
+
+// cell number k of a kind and a colour, the cells rising; -1 past the last
+static int cell_of(const struct element *e, int n, int colour, int k) {
+    for (int i = 0; i < C; i++)
+        if (kind[i] == n && e->colour[i] == colour && k-- == 0) return i;
+    return -1;
+}
+
+static void list_distant(const struct element *test, const struct element *trial, int test_kind, int trial_kind, int batch) {
+    int B = batch < C ? batch : C; // a larger batch holds all cells of a kind and a colour, as this one does
     for (int tc = 0; tc < C; tc++)
         for (int rc = 0; rc < C; rc++)
             for (int tb = 0; tb < C; tb++)
                 for (int rb = 0; rb < C; rb++)
                     for (int q = rb * B; q < rb * B + B; q++)
                         for (int p = tb * B; p < tb * B + B; p++) {
-                            int i = cell_of(test, tc, p), j = cell_of(trial, rc, q);
+                            int i = cell_of(test, test_kind, tc, p), j = cell_of(trial, trial_kind, rc, q);
                             if (i >= 0 && j >= 0 && !meet(vert, i, j)) work[records++] = (struct record){ 255, i, j };
                         }
+}
+
+static void list_work(const struct element *test, const struct element *trial, int batch) {
+    records = 0;
+    for (int n = 3; n <= 4; n++)
+        for (int k = 3; k <= 4; k++) list_distant(test, trial, n, k, batch);
     distant_records = records;
-    for (int p = 0; p < 28; p++)
+    for (int p = 0; p < 149; p++)
         for (int v = 0; v < V; v++)
             for (int i = 0; i < C; i++)
                 for (int j = 0; j < C; j++)
@@ -205,7 +251,7 @@ struct sparse { uint64_t starts[STARTS]; int columns[ENTRIES]; double values[ENT
 
 struct run_case {
     struct element test, trial;
-    int batch, entries_run, refusal;
+    int kinds[CELLS + 1], kinds_length, batch, entries_run, refusal;
     struct integrand f;
     int calls[CALLS][11], call_numbers, pool_length, matrix_length, entry_length, answer_numbers, test_dofs_length;
     double pool[POOL], before[MATRIX];
@@ -274,10 +320,11 @@ static int jdets_right(struct list geometry) {
     return 1;
 }
 
-static int lent_refusal(const struct lent *l, int distant) {
+// m and n: the dims of the record's cells
+static int lent_refusal(const struct lent *l, int distant, int m, int n) {
     int K = kernel_width(&c.f), D = table_rows(&c.f), T = l->T, R = l->R, most = distant ? 64 : 2048;
     if (T < 1 || T > most || R < 1 || R > most) return 9;
-    if (l->test_weights.n != T || l->trial_weights.n != (distant ? R : 0) || l->test_table.n != D * T * c.test.dim || l->trial_table.n != D * R * c.trial.dim ||
+    if (l->test_weights.n != T || l->trial_weights.n != (distant ? R : 0) || l->test_table.n != D * T * m || l->trial_table.n != D * R * n ||
         l->kernel.n != (distant ? K * T * R : K * T) || l->test_geometry.n != 10 * T || l->trial_geometry.n != 10 * R)
         return 10;
     if (!all_finite(l->test_weights) || !all_finite(l->trial_weights) || !all_finite(l->test_table) || !all_finite(l->trial_table) || !all_finite(l->kernel) ||
@@ -290,24 +337,33 @@ static int lent_refusal(const struct lent *l, int distant) {
 
 static int seen[32], seen_looks, seen_adds, seen_kept, seen_cases, seen_calls, seen_nan, seen_infinite, cases;
 
+// the entries of the touching records before p, record after record
+static int entries_before(int p) {
+    int sum = 0;
+    for (int q = distant_records; q < p; q++) sum += c.test.dim[work[q].test] * c.trial.dim[work[q].trial];
+    return sum;
+}
+
 // 21, 20, 23, then 9 to 11: the run's numbers and its plan are planning's own, so 22 turns nothing down, and 21 what is lent alone
 static int call_refusal(const int *call) {
     int kind = call[0];
+    struct record e;
     if ((kind == DISTANT || kind == TOUCHING) && c.matrix_length != c.test.count * c.trial.count) return 21;
-    if (kind == WRITE && c.entry_length != (C * C - distant_records) * c.test.dim * c.trial.dim) return 21;
+    if (kind == WRITE && c.entry_length != entries_before(C * C)) return 21;
     if (c.position == C * C) return 20;
     if (kind == LOOK) return 0;
-    if ((kind == WRITE) != c.entries_run || (kind == DISTANT) != (work[c.position].pattern == 255)) return 23;
+    e = work[c.position];
+    if ((kind == WRITE) != c.entries_run || (kind == DISTANT) != (e.pattern == 255)) return 23;
     struct lent l = lent_of(call);
-    return lent_refusal(&l, kind == DISTANT);
+    return lent_refusal(&l, kind == DISTANT, c.test.dim[e.test], c.trial.dim[e.trial]);
 }
 
 static void put_entries(const int *call) {
     struct record e = work[c.position];
     struct lent l = lent_of(call);
-    int place = (c.position - distant_records) * c.test.dim * c.trial.dim;
-    for (int j = 0; j < c.trial.dim; j++)
-        for (int i = 0; i < c.test.dim; i++) {
+    int place = entries_before(c.position);
+    for (int j = 0; j < c.trial.dim[e.trial]; j++)
+        for (int i = 0; i < c.test.dim[e.test]; i++) {
             int row = c.test.dof[e.test][i], column = c.trial.dof[e.trial][j];
             double x = call[0] == DISTANT ? distant_entry(&l, i, j) : touching_entry(&l, i, j);
             if (call[0] == WRITE) {
@@ -420,7 +476,7 @@ static double positive(void) { return 0.25 + fabs(number()); }
 // ---- what is lent: blocks of the pool, each the lists of one add
 
 enum fault { RIGHT, INFINITE, JDET_ZERO, JDET_NEGATIVE };
-struct block { int kind, T, R, place[8]; enum fault fault; };
+struct block { int kind, T, R, test_kind, trial_kind, place[8]; enum fault fault; };
 
 static struct block blocks[BLOCKS];
 static int block_count;
@@ -433,11 +489,13 @@ static double *grow(int n) {
     return at;
 }
 
-static void add_block(int kind, int T, int R, enum fault fault) {
+// for a pair of cells of these kinds
+static void add_block(int kind, int test_kind, int trial_kind, int T, int R, enum fault fault) {
     struct block *b = &blocks[block_count++];
     int K = kernel_width(&c.f), D = table_rows(&c.f), distant = kind == DISTANT, n = 0, start = c.pool_length;
-    const int lengths[7] = { T, distant ? R : 0, D * T * c.test.dim, D * R * c.trial.dim, distant ? K * T * R : K * T, 10 * T, 10 * R };
-    *b = (struct block){ .kind = kind, .T = T, .R = R, .fault = fault };
+    const int lengths[7] = { T, distant ? R : 0, D * T * dim_of(&c.test, test_kind), D * R * dim_of(&c.trial, trial_kind), distant ? K * T * R : K * T, 10 * T,
+                             10 * R };
+    *b = (struct block){ .kind = kind, .T = T, .R = R, .test_kind = test_kind, .trial_kind = trial_kind, .fault = fault };
     b->place[n++] = start;
     for (int j = 0; j < 7; j++) {
         double *at = grow(lengths[j]);
@@ -455,6 +513,14 @@ static const struct block *any_block(int kind, enum fault fault) {
     for (;;) {
         const struct block *b = &blocks[below(block_count)];
         if (b->kind == kind && b->fault == fault) return b;
+    }
+}
+
+// one that is right for the kinds of the record at the run's position; after the last, any
+static const struct block *right_block(int of) {
+    for (;;) {
+        const struct block *b = any_block(of, RIGHT);
+        if (c.position == C * C || (b->test_kind == kind[work[c.position].test] && b->trial_kind == kind[work[c.position].trial])) return b;
     }
 }
 
@@ -481,7 +547,7 @@ static void look(void) { play_next(next_call(LOOK, NULL)); }
 
 // A call of that kind with blocks of its own kind (the entries call takes touching ones): right, or turned down by 9, 10 or 11.
 static void ask(int kind) {
-    play_next(next_call(kind, any_block(kind == DISTANT ? DISTANT : TOUCHING, RIGHT)));
+    play_next(next_call(kind, right_block(kind == DISTANT ? DISTANT : TOUCHING)));
 }
 
 static void ask_wrong(int kind) {
@@ -525,14 +591,24 @@ static void play_some(int n, int with_entries) {
 
 // ---- cases
 
+static const int triangles[] = { 3, 3, 3, 3, 3, 3, 3, 3 }, quads[] = { 4, 4, 4, 4, 4, 4, 4, 4 };
 static const int paper[] = { 0, 1, 2, 1, 3, 2, 4, 5, 6 };
 static const int octahedron[] = { 0, 2, 4, 2, 1, 4, 1, 3, 4, 3, 0, 4, 2, 0, 5, 1, 2, 5, 3, 1, 5, 0, 3, 5 };
 static const int by_edge[] = { 0, 1, 2, 2, 1, 3 }, by_vertex[] = { 0, 1, 2, 3, 2, 4 }, apart[] = { 0, 1, 2, 3, 4, 5 }, twice[] = { 0, 1, 2, 0, 1, 2 },
                  turned[] = { 0, 1, 2, 1, 2, 0 };
-static const struct { int cells; const int *vertices; } meshes[] = {
-    { 3, paper }, { 8, octahedron }, { 2, by_edge }, { 2, by_vertex }, { 2, apart }, { 2, twice }, { 1, paper }, { 2, turned }
+// a triangle and a quad that share an edge; these with a triangle and a quad that share nothing; a quad, two triangles and a quad in a row; quads alone, two with
+// an edge and one apart; a quad twice; quads that meet only at a diagonal; a triangle that shares three vertices with a quad
+static const int pair_kinds[] = { 3, 4 }, pair[] = { 0, 1, 2, 1, 3, 2, 4 };
+static const int pairs_kinds[] = { 3, 4, 3, 4 }, pairs[] = { 0, 1, 2, 1, 3, 2, 4, 5, 6, 7, 8, 9, 10, 11 };
+static const int row_kinds[] = { 4, 3, 3, 4 }, row[] = { 0, 1, 4, 5, 1, 2, 5, 6, 5, 2, 7, 3, 6, 2 };
+static const int panels[] = { 0, 1, 2, 3, 5, 4, 3, 1, 6, 7, 8, 9 }, quad_twice[] = { 0, 1, 2, 3, 0, 1, 2, 3 }, diagonal[] = { 0, 1, 2, 3, 0, 4, 5, 3 };
+static const int three_kinds[] = { 3, 4 }, three_shared[] = { 0, 1, 2, 0, 1, 2, 3 };
+static const struct { int cells; const int *kinds, *vertices; } meshes[] = {
+    { 3, triangles, paper }, { 8, triangles, octahedron }, { 2, triangles, by_edge }, { 2, triangles, by_vertex }, { 2, triangles, apart }, { 2, triangles, twice },
+    { 1, triangles, paper }, { 2, triangles, turned }, { 2, pair_kinds, pair }, { 4, pairs_kinds, pairs }, { 4, row_kinds, row }, { 3, quads, panels },
+    { 2, quads, quad_twice }, { 2, quads, diagonal }, { 2, three_kinds, three_shared }
 };
-enum mesh { PAPER, OCTAHEDRON, BY_EDGE, BY_VERTEX, APART, TWICE, ALONE, TURNED };
+enum mesh { PAPER, OCTAHEDRON, BY_EDGE, BY_VERTEX, APART, TWICE, ALONE, TURNED, PAIR, PAIRS, ROW, PANELS, QUAD_TWICE, DIAGONAL, THREE_SHARED };
 
 static const struct integrand single = { 1, { { 0, 0, 0 } } };
 
@@ -544,12 +620,42 @@ static struct integrand two(int s1, int k1, int s2, int k2) {
     return (struct integrand){ 2, { { s1, k1, s1 ? number() : 0.0 }, { s2, k2, s2 ? number() : 0.0 } } };
 }
 
-static void begin(enum mesh mesh, const int test[3], const int trial[3], int batch, struct integrand f, int entries_run) {
+static int has_kind(int n) {
+    for (int i = 0; i < C; i++)
+        if (kind[i] == n) return 1;
+    return 0;
+}
+
+// Blocks for the one kind that the cells have; where they have both, for each two kinds.
+static void add_blocks(void) {
+    int mixed = has_kind(3) && has_kind(4), n = kind[0];
+    if (mixed)
+        for (int k = 0; k < 4; k++) {
+            add_block(DISTANT, 3 + k / 2, 3 + k % 2, 1 + k % 2, 1, RIGHT);
+            add_block(TOUCHING, 3 + k / 2, 3 + k % 2, 1, 1, RIGHT);
+        }
+    else
+        for (int k = 0; k < 2; k++) {
+            add_block(DISTANT, n, n, 1 + below(2), 1 + below(3), RIGHT);
+            add_block(TOUCHING, n, n, 1 + k, 1 + k, RIGHT);
+        }
+    for (enum fault fault = INFINITE; fault <= JDET_NEGATIVE; fault++) {
+        add_block(DISTANT, n, n, 1, 1, fault);
+        add_block(TOUCHING, n, mixed ? 7 - n : n, 1, 1, fault);
+    }
+}
+
+// An element is a, b, c of triangles, then of quads.
+static struct element element(const int e[6]) { return (struct element){ .triangle = { e[0], e[1], e[2] }, .quad = { e[3], e[4], e[5] } }; }
+
+static void begin(enum mesh mesh, const int test[6], const int trial[6], int batch, struct integrand f, int entries_run) {
     memset(&c, 0, sizeof c);
     call_count = block_count = 0;
-    set_mesh(meshes[mesh].cells, meshes[mesh].vertices);
-    c.test = (struct element){ .a = test[0], .b = test[1], .c = test[2] };
-    c.trial = (struct element){ .a = trial[0], .b = trial[1], .c = trial[2] };
+    set_mesh(meshes[mesh].cells, meshes[mesh].kinds, meshes[mesh].vertices);
+    memcpy(c.kinds, kind, (size_t)C * sizeof *kind);
+    c.kinds_length = C;
+    c.test = element(test);
+    c.trial = element(trial);
     c.batch = batch;
     c.f = f;
     c.entries_run = entries_run;
@@ -559,7 +665,7 @@ static void begin(enum mesh mesh, const int test[3], const int trial[3], int bat
     colour_cells(&c.trial);
     if (batch > 0) list_work(&c.test, &c.trial, batch);
     c.position = entries_run ? distant_records : 0;
-    c.test_dofs_length = C * c.test.dim;
+    c.test_dofs_length = c.test.places;
     c.matrix_length = c.test.count * c.trial.count;
     if (c.matrix_length > MATRIX) exit(1);
     for (int i = 0; i < c.matrix_length; i++) c.before[i] = number();
@@ -568,19 +674,12 @@ static void begin(enum mesh mesh, const int test[3], const int trial[3], int bat
         c.rows[i] = c.columns[i] = NOTHING;
         c.values[i] = 0.5;
     }
-    for (int k = 0; k < 2; k++) {
-        add_block(DISTANT, 1 + below(2), 1 + below(3), RIGHT);
-        add_block(TOUCHING, 1 + k, 1 + k, RIGHT);
-    }
-    for (enum fault fault = INFINITE; fault <= JDET_NEGATIVE; fault++) {
-        add_block(DISTANT, 1, 1, fault);
-        add_block(TOUCHING, 1, 1, fault);
-    }
+    add_blocks();
     memcpy(c.matrix, c.before, sizeof c.matrix);
 }
 
 static void with_entry_lists(int more) {
-    c.entry_length = (C * C - distant_records) * c.test.dim * c.trial.dim + more;
+    c.entry_length = entries_before(C * C) + more;
     if (c.entry_length > ENTRIES) exit(1);
 }
 
@@ -602,6 +701,16 @@ static void floats(const double *list, int n) {
     for (int i = 0; i < n; i++) word(to_bits(list[i]));
 }
 
+// the numbers of the cells, one cell after the other
+static int flat[4 * CELLS];
+
+static int flatten(int list[CELLS][4]) {
+    int n = 0;
+    for (int i = 0; i < C; i++)
+        for (int v = 0; v < kind[i]; v++) flat[n++] = list[i][v];
+    return n;
+}
+
 static void sparse_lists(const struct sparse *l) {
     for (int i = 0; i < c.starts_length; i++) word(l->starts[i]);
     numbers(l->columns, c.kept_columns_length);
@@ -613,22 +722,30 @@ static void end_line(void) {
     column = 0;
 }
 
+static void digits(const int *list, int n) {
+    uint64_t x = 0;
+    for (int i = 0; i < 16; i++) x = x << 4 | (uint64_t)(i < n ? list[i] : 0);
+    word(x);
+}
+
 static void write_case(void) {
-    const int digits[16] = { c.test.a, c.test.b, c.test.c, c.trial.a, c.trial.b, c.trial.c, c.f.terms, c.f.term[0].scaled, c.f.term[0].kind, c.f.term[1].scaled,
-                             c.f.term[1].kind, c.entries_run, c.refusal };
+    const struct form t = c.test.triangle, r = c.trial.triangle, tq = c.test.quad, rq = c.trial.quad;
+    const int forms[14] = { t.a, t.b, t.c, r.a, r.b, r.c, c.f.terms, c.f.term[0].scaled, c.f.term[0].kind, c.f.term[1].scaled, c.f.term[1].kind, c.entries_run,
+                            c.refusal / 16, c.refusal % 16 };
+    const int of_quads[6] = { tq.a, tq.b, tq.c, rq.a, rq.b, rq.c };
     const int sizes[4] = { C, V, E, c.batch };
-    const int lengths[20] = { 3 * C, c.test_dofs_length, C * c.trial.dim, C, 3 * C * c.test.dim, 3 * C * c.trial.dim, 3 * C * C, c.call_numbers, c.pool_length,
-                              c.matrix_length, c.entry_length, c.answer_numbers, c.position, c.starts_length, c.kept_columns_length, c.kept_values_length,
-                              c.gathered[0], c.gathered[1] };
-    uint64_t forms = 0;
-    for (int i = 0; i < 16; i++) forms = forms << 4 | (uint64_t)digits[i];
+    const int lengths[20] = { flatten(vert), c.test_dofs_length, c.trial.places, C, 3 * c.test.places, 3 * c.trial.places, 3 * C * C, c.call_numbers,
+                              c.pool_length, c.matrix_length, c.entry_length, c.answer_numbers, c.position, c.starts_length, c.kept_columns_length,
+                              c.kept_values_length, c.gathered[0], c.gathered[1], c.kinds_length };
     numbers(sizes, 4);
-    word(forms);
+    digits(forms, 14);
     word(to_bits(c.f.term[0].factor));
     word(to_bits(c.f.term[1].factor));
+    digits(of_quads, 6);
     numbers(lengths, 20);
-    numbers(&vert[0][0], 3 * C);
-    numbers(&edge[0][0], 3 * C);
+    numbers(c.kinds, c.kinds_length);
+    numbers(flat, flatten(vert));
+    numbers(flat, flatten(edge));
     numbers(&c.calls[0][0], c.call_numbers);
     floats(c.pool, c.pool_length);
     floats(c.before, c.matrix_length);
@@ -665,28 +782,45 @@ static void finish(void) {
 
 // ---- the two files
 
-static const int vertices_1[] = { 1, 0, 0 }, edges_1[] = { 0, 1, 0 }, cells_1[] = { 0, 0, 1 }, cells_2[] = { 0, 0, 2 }, dim_4[] = { 1, 0, 1 }, dim_6[] = { 1, 1, 0 },
-                 dim_10[] = { 1, 1, 4 }, dim_11[] = { 1, 1, 5 };
+static const int vertices_1[] = { 1, 0, 0, 1, 0, 0 }, edges_1[] = { 0, 1, 0, 0, 1, 0 }, cells_1[] = { 0, 0, 1, 0, 0, 1 }, cells_2[] = { 0, 0, 2, 0, 0, 2 },
+                 dim_4[] = { 1, 0, 1, 1, 0, 1 }, dim_6[] = { 1, 1, 0, 1, 1, 0 }, dim_10[] = { 1, 1, 4, 1, 1, 2 }, dim_11[] = { 1, 1, 5, 1, 1, 0 };
+// a quad has more or fewer DOFs inside than a triangle; a kind that is not there has an element that check 4 would turn down; a or b differ
+static const int more_in_quads[] = { 1, 0, 0, 1, 0, 1 }, fewer_in_quads[] = { 0, 1, 3, 0, 1, 0 }, only_triangles[] = { 1, 0, 0, 15, 15, 15 },
+                 only_quads[] = { 0, 0, 0, 1, 0, 0 }, other_a[] = { 1, 0, 0, 2, 0, 0 }, other_b[] = { 0, 1, 0, 0, 2, 0 }, large_quads[] = { 1, 1, 0, 1, 1, 3 };
 
-static void dense_whole(enum mesh mesh, const int test[3], const int trial[3], int batch, struct integrand f) {
+static void dense_whole(enum mesh mesh, const int test[6], const int trial[6], int batch, struct integrand f) {
     begin(mesh, test, trial, batch, f, 0);
     play_whole(0);
     finish();
 }
 
-// the calls that are there are not played: planning refuses
-static void refused(enum mesh mesh, const int test[3], int batch, struct integrand f, int dofs_more, int refusal) {
+// planning refuses, and the calls that are there are not played
+static void begin_refused(enum mesh mesh, int batch, struct integrand f, int refusal) {
     begin(mesh, vertices_1, vertices_1, batch, f, 0);
     next_call(DISTANT, any_block(DISTANT, RIGHT));
     next_call(TOUCHING, any_block(TOUCHING, RIGHT));
-    c.test.a = test[0], c.test.b = test[1], c.test.c = test[2];
-    c.test_dofs_length += dofs_more;
     c.refusal = refusal;
+}
+
+static void refused(enum mesh mesh, const int test[6], int batch, struct integrand f, int dofs_more, int refusal) {
+    begin_refused(mesh, batch, f, refusal);
+    c.test.triangle = (struct form){ test[0], test[1], test[2] };
+    c.test.quad = (struct form){ test[3], test[4], test[5] };
+    c.test_dofs_length += dofs_more;
+    finish();
+}
+
+// the kind list has other kinds at the end, or is longer or shorter
+static void refused_kinds(enum mesh mesh, int last, int more, int refusal) {
+    begin_refused(mesh, 1, single, refusal);
+    if (last) c.kinds[C - 1] = last;
+    c.kinds_length += more;
+    if (more > 0) c.kinds[C] = 3;
     finish();
 }
 
 static void dense_file(void) {
-    head(38);
+    head(58);
     // whole runs
     dense_whole(PAPER, vertices_1, vertices_1, 2, single);
     dense_whole(PAPER, dim_6, vertices_1, 1, two(0, 1, 1, 3));
@@ -748,10 +882,33 @@ static void dense_file(void) {
     begin(PAPER, vertices_1, vertices_1, 1, (struct integrand){ 1, { { 0, 0, 0 }, { 1, 9, INFINITY } } }, 0);
     play_whole(0);
     finish();
+    // triangles and quads, and quads alone
+    dense_whole(PAIR, vertices_1, vertices_1, 1, single);
+    dense_whole(PAIRS, more_in_quads, vertices_1, 2, two(0, 1, 1, 4));
+    dense_whole(PAIRS, fewer_in_quads, cells_2, 1, bare(0));
+    dense_whole(ROW, vertices_1, more_in_quads, 1, scaled(2));
+    dense_whole(ROW, cells_1, edges_1, 2, bare(3));
+    dense_whole(PANELS, vertices_1, only_quads, 2, two(1, 0, 0, 3));
+    dense_whole(QUAD_TWICE, dim_6, dim_4, 1, scaled(1));
+    // the element of a kind that is not there is not read
+    dense_whole(PAPER, only_triangles, vertices_1, 2, single);
+    // planning refuses a mesh with quads, or its elements or kinds
+    refused(PAIR, other_a, 1, single, 0, 4);
+    refused(PAIR, other_b, 1, single, 0, 4);
+    refused(PAIR, large_quads, 1, single, 0, 4);
+    refused(PANELS, only_triangles, 1, single, 0, 4);
+    refused(DIAGONAL, vertices_1, 1, single, 0, 7);
+    refused(THREE_SHARED, vertices_1, 1, single, 0, 7);
+    refused(PAIR, vertices_1, 1, single, -1, 8);
+    refused_kinds(PAPER, 5, 0, 26);
+    refused_kinds(PAPER, 0, -1, 26);
+    refused_kinds(PAIR, 0, 1, 26);
+    refused_kinds(PAPER, 4, 0, 1);
+    refused_kinds(PAIR, 3, 0, 1);
 }
 
 // the lists of the sparse rows are as long as needed, somewhat longer, and longer than the entry lists, in turn
-static void entries_whole(enum mesh mesh, const int test[3], const int trial[3], int batch, struct integrand f, int entries_run) {
+static void entries_whole(enum mesh mesh, const int test[6], const int trial[6], int batch, struct integrand f, int entries_run) {
     int turn = seen_cases % 3;
     begin(mesh, test, trial, batch, f, entries_run);
     with_entry_lists(0);
@@ -761,7 +918,7 @@ static void entries_whole(enum mesh mesh, const int test[3], const int trial[3],
 }
 
 static void entries_file(void) {
-    head(26);
+    head(34);
     // whole entries runs
     entries_whole(PAPER, vertices_1, vertices_1, 2, single, 1);
     entries_whole(PAPER, dim_6, vertices_1, 1, two(0, 1, 1, 3), 1);
@@ -819,6 +976,20 @@ static void entries_file(void) {
     play_whole(1);
     gather(1, 0, 2);
     finish();
+    // triangles and quads, and quads alone
+    entries_whole(PAIR, vertices_1, vertices_1, 1, single, 1);
+    entries_whole(PAIRS, more_in_quads, vertices_1, 2, two(0, 1, 1, 4), 1);
+    entries_whole(PAIRS, vertices_1, fewer_in_quads, 1, bare(0), 1);
+    entries_whole(ROW, more_in_quads, cells_1, 1, scaled(3), 1);
+    entries_whole(PANELS, only_quads, vertices_1, 2, bare(2), 1);
+    entries_whole(PAIRS, vertices_1, more_in_quads, 2, single, 0);
+    // entry lists as long as if all cells were triangles, and all quads
+    for (int n = 3; n <= 4; n++) {
+        begin(PAIRS, vertices_1, vertices_1, 1, single, 1);
+        with_entry_lists(6 * n * n - entries_before(C * C));
+        play_some(8, 1);
+        finish();
+    }
 }
 
 int main(int argc, char **argv) {

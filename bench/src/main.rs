@@ -2,7 +2,7 @@
 //!
 //!     bench [POINTS [TOUCHING]]    distant points a side (6) and points of a touching pair (128)
 use oracle::clock::thread_time;
-use oracle::job::{Element, Integrand, Job};
+use oracle::job::{Element, Elements, Integrand, Job};
 use oracle::meshes::{plain_mesh, sphere};
 use oracle::numbers::{Numbers, Points, Size};
 use oracle::ours::{assemble, Planner};
@@ -43,19 +43,15 @@ fn best<T>(mut run: impl FnMut() -> T, time: impl Fn(&T) -> Duration) -> T {
 fn job(refinements: usize, element: Element, kind: u32) -> Job {
     Job {
         mesh: plain_mesh(&sphere(refinements)),
-        test: element,
-        trial: element,
+        test: Elements::both(element),
+        trial: Elements::both(element),
         batch: 128,
         integrand: Integrand::bare(kind),
     }
 }
 
 fn numbers(job: &Job, distant: usize, touching: usize) -> Numbers {
-    let points = Points {
-        touching: vec![touching; 28],
-        test: distant,
-        trial: distant,
-    };
+    let points = Points::of(touching, distant);
     Numbers::new(job, points, Size::Ordinary, &mut Random::new(7))
 }
 
@@ -81,7 +77,7 @@ fn print_plan(job: &Job, before: [f64; 2]) -> [f64; 2] {
     println!(
         "| {} | {} | {:.3} | {:.3} | {:.3} | {:.3} | {rust:.3} | {ours:.3} | {:.2} | {} | {} |",
         job.mesh.cells,
-        name(job.test),
+        name(job.test.triangle),
         ms(times.spaces),
         ms(times.colours),
         ms(times.blocks),
@@ -127,7 +123,7 @@ fn print_assembly(job: &Job, numbers: &Numbers, before: [f64; 2]) -> [f64; 2] {
     println!(
         "| {} | {} | {} | {rust:.1} | {copying:.1} | {planning:.1} | {adds:.1} | {:.2} | {:.2} | {} | {} |",
         job.mesh.cells,
-        name(job.test),
+        name(job.test.triangle),
         job.integrand.first.kind,
         rust / whole,
         (rust - copying) / whole,

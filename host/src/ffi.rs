@@ -22,12 +22,15 @@ pub struct CNumbers {
     pub cells: u32,
     pub vertices: u32,
     pub edges: u32,
+    pub triangles: u32,
+    pub quads: u32,
     pub touching: u32,
     pub distant: u32,
+    pub pairs: crate::KindPairs,
     pub rows: u32,
     pub columns: u32,
-    pub test: crate::Element,
-    pub trial: crate::Element,
+    pub test: crate::Elements,
+    pub trial: crate::Elements,
     pub integrand: CIntegrand,
 }
 
@@ -69,12 +72,14 @@ extern "C" {
         cells: u32,
         vertices: u32,
         edges: u32,
+        kinds: *const u8,
+        kinds_length: usize,
         cell_vertices: *const u32,
         cell_vertices_length: usize,
         cell_edges: *const u32,
         cell_edges_length: usize,
-        test: crate::Element,
-        trial: crate::Element,
+        test: crate::Elements,
+        trial: crate::Elements,
         batch: u32,
         integrand: CIntegrand,
         test_dofs: *mut u32,
@@ -99,6 +104,8 @@ extern "C" {
 
     pub fn seivalto_look(
         run: CRun,
+        kinds: *const u8,
+        kinds_length: usize,
         test_dofs: *const u32,
         test_dofs_length: usize,
         trial_dofs: *const u32,
@@ -109,6 +116,8 @@ extern "C" {
 
     pub fn seivalto_add_distant(
         run: CRun,
+        kinds: *const u8,
+        kinds_length: usize,
         test_dofs: *const u32,
         test_dofs_length: usize,
         trial_dofs: *const u32,
@@ -137,6 +146,8 @@ extern "C" {
 
     pub fn seivalto_add_touching(
         run: CRun,
+        kinds: *const u8,
+        kinds_length: usize,
         test_dofs: *const u32,
         test_dofs_length: usize,
         trial_dofs: *const u32,
@@ -162,6 +173,8 @@ extern "C" {
 
     pub fn seivalto_add_entries(
         run: CRun,
+        kinds: *const u8,
+        kinds_length: usize,
         test_dofs: *const u32,
         test_dofs_length: usize,
         trial_dofs: *const u32,
@@ -211,9 +224,14 @@ extern "C" {
 #[cfg(test)]
 mod tests {
     use super::*;
-    use crate::Element;
+    use crate::{Element, Elements, KindPairs, TRIANGLE};
 
     const ELEMENT: Element = Element { a: 0, b: 0, c: 1 };
+    const ELEMENTS: Elements = Elements {
+        triangle: ELEMENT,
+        quad: ELEMENT,
+    };
+    const KINDS: [u8; 1] = [TRIANGLE];
 
     /// Plans a mesh of one triangle with elements that have one DOF a cell.
     fn planned(batch: u32, integrand: CIntegrand, work: &mut [u32; 3]) -> CPlanned {
@@ -228,12 +246,14 @@ mod tests {
                 1,
                 3,
                 3,
+                KINDS.as_ptr(),
+                1,
                 vertices.as_ptr(),
                 3,
                 edges.as_ptr(),
                 3,
-                ELEMENT,
-                ELEMENT,
+                ELEMENTS,
+                ELEMENTS,
                 batch,
                 integrand,
                 test_dofs.as_mut_ptr(),
@@ -258,7 +278,19 @@ mod tests {
     fn looked(run: CRun, work: &[u32; 3]) -> CLooked {
         let dofs = [0];
         // SAFETY: each pointer and length is an array's.
-        unsafe { seivalto_look(run, dofs.as_ptr(), 1, dofs.as_ptr(), 1, work.as_ptr(), 3) }
+        unsafe {
+            seivalto_look(
+                run,
+                KINDS.as_ptr(),
+                1,
+                dofs.as_ptr(),
+                1,
+                dofs.as_ptr(),
+                1,
+                work.as_ptr(),
+                3,
+            )
+        }
     }
 
     /// Adds the one pair of that mesh, with the numbers of F1 of the paper, to a matrix of one number.
@@ -271,6 +303,8 @@ mod tests {
         unsafe {
             seivalto_add_touching(
                 run,
+                KINDS.as_ptr(),
+                1,
                 dofs.as_ptr(),
                 1,
                 dofs.as_ptr(),
@@ -374,15 +408,21 @@ mod tests {
             numbers.cells,
             numbers.vertices,
             numbers.edges,
+            numbers.triangles,
+            numbers.quads,
             numbers.touching,
             numbers.distant,
             numbers.rows,
             numbers.columns,
         ];
-        assert_eq!(
-            (counts, numbers.test, numbers.trial),
-            ([0; 7], ELEMENT, ELEMENT)
-        );
+        let none = KindPairs {
+            triangle_triangle: 0,
+            triangle_quad: 0,
+            quad_triangle: 0,
+            quad_quad: 0,
+        };
+        assert_eq!((counts, numbers.pairs), ([0; 9], none));
+        assert_eq!((numbers.test, numbers.trial), (ELEMENTS, ELEMENTS));
         assert_eq!(
             (
                 numbers.integrand.first.scaled,

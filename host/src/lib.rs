@@ -3,9 +3,9 @@
 //! and how the pattern turns them.
 //!
 //! [`plan`], [`Numbers::begin`], then [`Run::look`] and the add of the record's kind, until look answers [`Refusal::NoRecordLeft`]. [`sparse_rows`] gathers the
-//! lists of a finished entries run.
+//! lists of a finished entries run. Cells are triangles and quads; for triangles alone the kind list is [`triangles`], and an [`Element`] does for a side.
 //!
-//! Pointers, lengths and overlap, which the header names among a host's duties, are met by the types. The others stay: some 200 KiB of stack are free, for [`sparse_rows`] some 280; the
+//! Pointers, lengths and overlap, which the header names among a host's duties, are met by the types. The others stay: some 300 KiB of stack are free; the
 //! floating-point state is the default one, round to nearest, no flush to zero, no denormals-are-zero, exceptions masked; of a run only the value last handed
 //! back is used, since a [`Run`] is `Copy` and an older one adds a pair again; the lent numbers mean what the header says.
 mod ffi;
@@ -24,10 +24,56 @@ pub struct Element {
 }
 
 impl Element {
-    /// The local DOFs of a cell.
-    pub fn dim(self) -> usize {
-        3 * self.a as usize + 3 * self.b as usize + self.c as usize
+    /// The local DOFs of a cell of that kind, which has as many vertices and as many edges as its kind says.
+    pub fn dim(self, kind: u8) -> usize {
+        let n = usize::from(kind);
+        n * self.a as usize + n * self.b as usize + self.c as usize
     }
+}
+
+/// The kind of a triangle, and that of a quad: how many vertices it has.
+pub const TRIANGLE: u8 = 3;
+pub const QUAD: u8 = 4;
+
+/// The element of triangles and that of quads. That of a kind which no cell is of is not read; where both kinds are present, `a` and `b` are the same in both.
+/// An [`Element`] alone becomes that of both kinds.
+#[derive(Clone, Copy, Debug, PartialEq, Eq)]
+#[repr(C)]
+pub struct Elements {
+    pub triangle: Element,
+    pub quad: Element,
+}
+
+impl From<Element> for Elements {
+    fn from(element: Element) -> Elements {
+        Elements {
+            triangle: element,
+            quad: element,
+        }
+    }
+}
+
+impl Elements {
+    /// The local DOFs of a cell of that kind.
+    pub fn dim(self, kind: u8) -> usize {
+        match kind {
+            TRIANGLE => self.triangle.dim(TRIANGLE),
+            _ => self.quad.dim(QUAD),
+        }
+    }
+
+    /// How many DOFs cells of these kinds have, each counted by itself: the length of a DOF list, and a third of that of an owner list.
+    pub fn places(self, kinds: &[u8]) -> usize {
+        kinds.iter().map(|kind| self.dim(*kind)).sum()
+    }
+}
+
+const MOST_CELLS: usize = 2_048;
+
+/// The kind list of so many triangles, up to 2,048, which is as many cells as a mesh may have.
+pub fn triangles(cells: u32) -> &'static [u8] {
+    static KINDS: [u8; MOST_CELLS] = [TRIANGLE; MOST_CELLS];
+    &KINDS[..MOST_CELLS.min(cells as usize)]
 }
 
 /// A term: its kind alone or with a factor. Kinds: 0 single layer, 1 double layer, 2 adjoint double layer, 3 curl-curl, 4 normal-normal. The hypersingular
@@ -64,12 +110,15 @@ impl Integrand {
     }
 }
 
-/// The mesh: its sizes, and three vertex and three edge numbers a cell. Local edges 0, 1, 2 join local vertices (1,2), (0,2), (0,1).
+/// The mesh: its sizes, the kind of each cell ([`TRIANGLE`] or [`QUAD`]; [`triangles`] has the list of triangles alone), and for each cell, one after the other,
+/// as many vertex numbers and as many edge numbers as its kind says. Local edges of a triangle join local vertices (1,2), (0,2), (0,1), those of a quad
+/// (0,1), (0,2), (1,3), (2,3).
 #[derive(Clone, Copy, Debug)]
 pub struct Mesh<'a> {
     pub cells: u32,
     pub vertices: u32,
     pub edges: u32,
+    pub kinds: &'a [u8],
     pub cell_vertices: &'a [u32],
     pub cell_edges: &'a [u32],
 }
@@ -86,27 +135,41 @@ pub struct Lists<'a> {
     pub work: &'a mut [u32],
 }
 
-/// The plan that the calls of a run are lent: three of the lists that planning wrote.
+/// The plan that the calls of a run are lent: the mesh's kind list, and three of the lists that planning wrote.
 #[derive(Clone, Copy, Debug)]
 pub struct Plan<'a> {
+    pub kinds: &'a [u8],
     pub test_dofs: &'a [u32],
     pub trial_dofs: &'a [u32],
     pub work: &'a [u32],
 }
 
-/// The numbers that planning hands back. `touching` and `distant` count the ordered pairs of cells that share a vertex and that share none; a dense matrix has
-/// `rows` times `columns` numbers.
+/// Touching pairs per two kinds, that of the test cell first.
+#[derive(Clone, Copy, Debug, PartialEq, Eq)]
+#[repr(C)]
+pub struct KindPairs {
+    pub triangle_triangle: u32,
+    pub triangle_quad: u32,
+    pub quad_triangle: u32,
+    pub quad_quad: u32,
+}
+
+/// The numbers that planning hands back. `triangles` and `quads` count the cells of each kind, `touching` and `distant` the ordered pairs of cells that share a
+/// vertex and that share none, `pairs` the touching ones per two kinds; a dense matrix has `rows` times `columns` numbers.
 #[derive(Clone, Copy, Debug, PartialEq)]
 pub struct Numbers {
     pub cells: u32,
     pub vertices: u32,
     pub edges: u32,
+    pub triangles: u32,
+    pub quads: u32,
     pub touching: u32,
     pub distant: u32,
+    pub pairs: KindPairs,
     pub rows: u32,
     pub columns: u32,
-    pub test: Element,
-    pub trial: Element,
+    pub test: Elements,
+    pub trial: Elements,
     pub integrand: Integrand,
 }
 
@@ -118,7 +181,7 @@ pub struct Run {
     pub position: u32,
 }
 
-/// A record of the work list: pattern (0 to 27 touching, 255 distant), test cell, trial cell.
+/// A record of the work list: pattern (0 to 148 touching, 255 distant), test cell, trial cell.
 #[derive(Clone, Copy, Debug, PartialEq, Eq)]
 #[repr(C)]
 pub struct Record {
@@ -195,7 +258,7 @@ pub enum Refusal {
     Vertices,
     /// 3: the number of edges, the length of the edge list, an edge number, or the edge rule.
     Edges,
-    /// 4: the dim of an element.
+    /// 4: the dim of an element, or `a` or `b` not the same for both kinds.
     Dim,
     /// 5: the batch size.
     Batch,
@@ -213,7 +276,7 @@ pub enum Refusal {
     LentNumber,
     /// 20: no record is left.
     NoRecordLeft,
-    /// 21: the numbers of the run, or the length of plan, matrix or entry lists.
+    /// 21: the numbers of the run, the kind list, or the length of plan, matrix or entry lists.
     Run,
     /// 22: the record at the run's position.
     Record,
@@ -223,9 +286,11 @@ pub enum Refusal {
     SparseLength,
     /// 25: the lengths of entry lists, or a row or column.
     Entries,
+    /// 26: the length of the kind list, or a kind.
+    Kinds,
 }
 
-const NUMBERED: [(u32, Refusal); 17] = [
+const NUMBERED: [(u32, Refusal); 18] = [
     (1, Refusal::Cells),
     (2, Refusal::Vertices),
     (3, Refusal::Edges),
@@ -243,6 +308,7 @@ const NUMBERED: [(u32, Refusal); 17] = [
     (23, Refusal::Kind),
     (24, Refusal::SparseLength),
     (25, Refusal::Entries),
+    (26, Refusal::Kinds),
 ];
 
 impl Refusal {
@@ -333,8 +399,11 @@ impl From<Numbers> for CNumbers {
             cells: n.cells,
             vertices: n.vertices,
             edges: n.edges,
+            triangles: n.triangles,
+            quads: n.quads,
             touching: n.touching,
             distant: n.distant,
+            pairs: n.pairs,
             rows: n.rows,
             columns: n.columns,
             test: n.test,
@@ -350,8 +419,11 @@ impl From<CNumbers> for Numbers {
             cells: n.cells,
             vertices: n.vertices,
             edges: n.edges,
+            triangles: n.triangles,
+            quads: n.quads,
             touching: n.touching,
             distant: n.distant,
+            pairs: n.pairs,
             rows: n.rows,
             columns: n.columns,
             test: n.test,
@@ -381,11 +453,11 @@ impl From<CRun> for Run {
     }
 }
 
-/// Plans, and writes the seven lists.
+/// Plans, and writes the seven lists. An element of a side is one for each kind ([`Elements`]), or an [`Element`] for both.
 pub fn plan(
     mesh: Mesh<'_>,
-    test: Element,
-    trial: Element,
+    test: impl Into<Elements>,
+    trial: impl Into<Elements>,
     batch: u32,
     integrand: Integrand,
     lists: Lists<'_>,
@@ -396,12 +468,14 @@ pub fn plan(
             mesh.cells,
             mesh.vertices,
             mesh.edges,
+            mesh.kinds.as_ptr(),
+            mesh.kinds.len(),
             mesh.cell_vertices.as_ptr(),
             mesh.cell_vertices.len(),
             mesh.cell_edges.as_ptr(),
             mesh.cell_edges.len(),
-            test,
-            trial,
+            test.into(),
+            trial.into(),
             batch,
             integrand.into(),
             lists.test_dofs.as_mut_ptr(),
@@ -434,6 +508,20 @@ impl Numbers {
     pub fn begin_entries(self) -> Run {
         // SAFETY: the call is lent nothing.
         unsafe { ffi::seivalto_begin_entries(self.into()) }.into()
+    }
+
+    /// The length of the entry lists of an entries run: the entries of all touching pairs.
+    pub fn entry_count(self) -> usize {
+        let p = self.pairs;
+        [
+            (p.triangle_triangle, TRIANGLE, TRIANGLE),
+            (p.triangle_quad, TRIANGLE, QUAD),
+            (p.quad_triangle, QUAD, TRIANGLE),
+            (p.quad_quad, QUAD, QUAD),
+        ]
+        .iter()
+        .map(|&(count, test, trial)| count as usize * self.test.dim(test) * self.trial.dim(trial))
+        .sum()
     }
 
     /// The entries of a finished entries run as sparse rows, in new lists: `rows` + 1 row starts, and columns and values as many as entries at first.
@@ -496,6 +584,8 @@ impl Run {
         let looked = unsafe {
             ffi::seivalto_look(
                 self.into(),
+                plan.kinds.as_ptr(),
+                plan.kinds.len(),
                 plan.test_dofs.as_ptr(),
                 plan.test_dofs.len(),
                 plan.trial_dofs.as_ptr(),
@@ -518,6 +608,8 @@ impl Run {
         added(unsafe {
             ffi::seivalto_add_distant(
                 self.into(),
+                plan.kinds.as_ptr(),
+                plan.kinds.len(),
                 plan.test_dofs.as_ptr(),
                 plan.test_dofs.len(),
                 plan.trial_dofs.as_ptr(),
@@ -557,6 +649,8 @@ impl Run {
         added(unsafe {
             ffi::seivalto_add_touching(
                 self.into(),
+                plan.kinds.as_ptr(),
+                plan.kinds.len(),
                 plan.test_dofs.as_ptr(),
                 plan.test_dofs.len(),
                 plan.trial_dofs.as_ptr(),
@@ -593,6 +687,8 @@ impl Run {
         added(unsafe {
             ffi::seivalto_add_entries(
                 self.into(),
+                plan.kinds.as_ptr(),
+                plan.kinds.len(),
                 plan.test_dofs.as_ptr(),
                 plan.test_dofs.len(),
                 plan.trial_dofs.as_ptr(),
@@ -634,7 +730,7 @@ mod tests {
             .collect();
         assert_eq!(
             numbers,
-            [1, 2, 3, 4, 5, 6, 7, 8, 9, 10, 11, 20, 21, 22, 23, 24, 25]
+            [1, 2, 3, 4, 5, 6, 7, 8, 9, 10, 11, 20, 21, 22, 23, 24, 25, 26]
         );
         for n in numbers {
             assert_eq!(Refusal::from_number(n).map(Refusal::number), Some(n));
@@ -643,5 +739,26 @@ mod tests {
             Refusal::NoRecordLeft.to_string(),
             "refused 20 (NoRecordLeft)"
         );
+    }
+
+    #[test]
+    fn dims_and_places() {
+        let element = Element { a: 1, b: 2, c: 1 };
+        let elements = Elements {
+            triangle: element,
+            quad: Element { a: 1, b: 0, c: 5 },
+        };
+        assert_eq!((element.dim(TRIANGLE), element.dim(QUAD)), (10, 13));
+        assert_eq!((elements.dim(TRIANGLE), elements.dim(QUAD)), (10, 9));
+        assert_eq!(elements.places(&[TRIANGLE, QUAD, QUAD]), 28);
+        assert_eq!(Elements::from(element).quad, element);
+    }
+
+    #[test]
+    fn kinds_of_triangles() {
+        for cells in [0, 1, 7, 2_048] {
+            assert_eq!(triangles(cells), vec![3; cells as usize]);
+        }
+        assert_eq!(triangles(u32::MAX).len(), 2_048);
     }
 }

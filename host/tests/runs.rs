@@ -1,4 +1,4 @@
-//! The calls of a run on mesh M, with good and bad arguments. A refused call leaves run, plan and lent lists as they were.
+//! The calls of a run on mesh M and on a mesh with quads, with good and bad arguments. A refused call leaves run, plan and lent lists as they were.
 mod support;
 
 use seivalto::*;
@@ -10,18 +10,22 @@ const TRIAL: Element = Element { a: 1, b: 0, c: 1 };
 struct Planned {
     numbers: Numbers,
     lists: OwnedLists,
-    distant: OwnedDistant,
-    touching: OwnedTouching,
 }
 
 fn mesh_m_planned() -> Planned {
     let (numbers, lists) = planned(&mesh_m(), TEST, TRIAL, 2, SINGLE_LAYER);
-    Planned {
-        numbers,
-        lists,
-        distant: OwnedDistant::new(3, 4, TEST, TRIAL, 1),
-        touching: OwnedTouching::new(5, TEST, TRIAL, 9),
-    }
+    Planned { numbers, lists }
+}
+
+/// Four cells, two triangles and two quads. N is 10, S is 6; the quads have a DOF inside on the trial side, the triangles none.
+fn mixed_planned() -> Planned {
+    let trial = Elements {
+        triangle: TEST,
+        quad: TRIAL,
+    };
+    let mesh = edge_shared_and_two_more();
+    let (numbers, lists) = planned(&mesh, TEST, trial, 2, SINGLE_LAYER);
+    Planned { numbers, lists }
 }
 
 impl Planned {
@@ -29,8 +33,33 @@ impl Planned {
         numbers((self.numbers.rows * self.numbers.columns) as usize, 100)
     }
 
-    fn entry_count(&self) -> usize {
-        self.numbers.touching as usize * TEST.dim() * TRIAL.dim()
+    /// The dims of the two cells of a record.
+    fn dims(&self, record: Record) -> (usize, usize) {
+        let kind = |cell: u32| self.lists.kinds[cell as usize];
+        (
+            self.numbers.test.dim(kind(record.test_cell)),
+            self.numbers.trial.dim(kind(record.trial_cell)),
+        )
+    }
+
+    /// What is lent for a record.
+    fn distant(&self, record: Record, seed: u64) -> OwnedDistant {
+        let (test, trial) = self.dims(record);
+        OwnedDistant::new(3, 4, test, trial, seed)
+    }
+
+    fn touching(&self, record: Record, seed: u64) -> OwnedTouching {
+        let (test, trial) = self.dims(record);
+        OwnedTouching::new(5, test, trial, seed)
+    }
+
+    /// The DOFs of the two cells of a record: rows and columns.
+    fn dofs(&self, record: Record) -> (&[u32], &[u32]) {
+        (
+            self.lists.test_dofs_of(self.numbers.test, record.test_cell),
+            self.lists
+                .trial_dofs_of(self.numbers.trial, record.trial_cell),
+        )
     }
 
     fn dense_at(&self, position: u32) -> Run {
@@ -45,6 +74,11 @@ impl Planned {
             position,
             ..self.numbers.begin_entries()
         }
+    }
+
+    /// C·C.
+    fn pairs(&self) -> u32 {
+        self.numbers.cells * self.numbers.cells
     }
 
     /// Record p of the work list.
@@ -73,17 +107,22 @@ fn beginning() {
 }
 
 #[test]
-fn a_whole_dense_run() {
-    let m = mesh_m_planned();
+fn whole_dense_runs() {
+    whole_dense_run(&mesh_m_planned());
+    whole_dense_run(&mixed_planned());
+}
+
+fn whole_dense_run(m: &Planned) {
     let mut matrix = m.matrix();
     let mut expected = matrix.clone();
     let mut run = m.numbers.begin();
-    for position in 0..9 {
+    for position in 0..m.pairs() {
         let (same, record) = run.look(m.lists.plan());
         let record = record.expect("a record is left");
         assert_eq!((same, record), (run, m.record(position)));
-        let distant = OwnedDistant::new(3, 4, TEST, TRIAL, 50 * u64::from(position));
-        let touching = OwnedTouching::new(5, TEST, TRIAL, 50 * u64::from(position));
+        assert_eq!(record.pattern == 255, position < m.numbers.distant);
+        let distant = m.distant(record, 50 * u64::from(position));
+        let touching = m.touching(record, 50 * u64::from(position));
         let (next, answer) = if record.pattern == 255 {
             run.add_distant(m.lists.plan(), distant.lent(), &mut matrix)
         } else {
@@ -98,8 +137,7 @@ fn a_whole_dense_run() {
             }
         );
         run = next;
-        let rows = OwnedLists::dofs(&m.lists.test_dofs, TEST.dim(), record.test_cell);
-        let columns = OwnedLists::dofs(&m.lists.trial_dofs, TRIAL.dim(), record.trial_cell);
+        let (rows, columns) = m.dofs(record);
         for (j, column) in columns.iter().enumerate() {
             for (i, row) in rows.iter().enumerate() {
                 expected[(row + m.numbers.rows * column) as usize] += if record.pattern == 255 {
@@ -113,31 +151,40 @@ fn a_whole_dense_run() {
     }
     let end = Err(Refusal::NoRecordLeft);
     assert_eq!(run.look(m.lists.plan()), (run, Err(Refusal::NoRecordLeft)));
+    let (distant, touching) = (m.distant(m.record(0), 1), m.touching(m.record(0), 9));
     assert_eq!(
-        run.add_distant(m.lists.plan(), m.distant.lent(), &mut matrix),
+        run.add_distant(m.lists.plan(), distant.lent(), &mut matrix),
         (run, end)
     );
     assert_eq!(
-        run.add_touching(m.lists.plan(), m.touching.lent(), &mut matrix),
+        run.add_touching(m.lists.plan(), touching.lent(), &mut matrix),
         (run, end)
     );
     assert_eq!(bits(&matrix), bits(&expected));
 }
 
+/// M has five touching pairs of 3 times 4 entries. The other mesh has 3 times 3 entries for each of its two pairs of triangles, 3 times 5 for the triangle with the quad,
+/// 4 times 3 for the quad with the triangle, and 4 times 5 for each of its two pairs of quads.
 #[test]
-fn a_whole_entries_run() {
-    let m = mesh_m_planned();
-    let count = m.entry_count();
+fn whole_entries_runs() {
+    whole_entries_run(&mesh_m_planned(), &[0, 12, 24, 36, 48, 60]);
+    whole_entries_run(&mixed_planned(), &[0, 9, 18, 33, 45, 65, 85]);
+}
+
+/// The entries of record N + q stand from `starts[q]` to `starts[q + 1]`.
+fn whole_entries_run(m: &Planned, starts: &[usize]) {
+    let count = *starts.last().expect("an end");
+    assert_eq!(m.numbers.entry_count(), count);
     let (mut rows, mut columns, mut values) =
         (vec![BLANK; count], vec![BLANK; count], numbers(count, 7));
     let (mut expected_rows, mut expected_columns, mut expected_values) =
         (rows.clone(), columns.clone(), values.clone());
     let mut run = m.numbers.begin_entries();
-    let mut at = 0;
-    for position in 4..9 {
+    let first = m.numbers.distant;
+    for position in first..m.pairs() {
         let record = m.record(position);
         assert_eq!(run.look(m.lists.plan()), (run, Ok(record)));
-        let touching = OwnedTouching::new(5, TEST, TRIAL, 50 * u64::from(position));
+        let touching = m.touching(record, 50 * u64::from(position));
         let lists = EntryLists {
             rows: &mut rows,
             columns: &mut columns,
@@ -153,43 +200,42 @@ fn a_whole_entries_run() {
             }
         );
         run = next;
-        for (j, column) in OwnedLists::dofs(&m.lists.trial_dofs, TRIAL.dim(), record.trial_cell)
-            .iter()
-            .enumerate()
-        {
-            for (i, row) in OwnedLists::dofs(&m.lists.test_dofs, TEST.dim(), record.test_cell)
-                .iter()
-                .enumerate()
-            {
+        let q = (position - first) as usize;
+        let mut at = starts[q];
+        let (test, trial) = m.dofs(record);
+        for (j, column) in trial.iter().enumerate() {
+            for (i, row) in test.iter().enumerate() {
                 expected_rows[at] = *row;
                 expected_columns[at] = *column;
                 expected_values[at] = touching.single_layer(i, j);
                 at += 1;
             }
         }
+        assert_eq!(at, starts[q + 1]);
         assert_eq!((&rows, &columns), (&expected_rows, &expected_columns));
         assert_eq!(bits(&values), bits(&expected_values));
     }
-    assert_eq!(at, count);
     let lists = EntryLists {
         rows: &mut rows,
         columns: &mut columns,
         values: &mut values,
     };
-    let answer = run.add_entries(m.lists.plan(), m.touching.lent(), lists);
+    let touching = m.touching(m.record(first), 9);
+    let answer = run.add_entries(m.lists.plan(), touching.lent(), lists);
     assert_eq!(answer, (run, Err(Refusal::NoRecordLeft)));
     assert_eq!(bits(&values), bits(&expected_values));
 }
 
 #[test]
 fn the_largest_pairs_on_a_small_stack() {
-    on_a_stack_of(200, || {
+    on_a_stack_of(300, || {
         let element = Element { a: 1, b: 2, c: 1 };
         let integrand = Integrand::two(Term::Scaled(-0.5, 3), Term::Scaled(2.0, 1));
         let (n, lists) = planned(&mesh_m(), element, element, 1, integrand);
         let widths = Widths { k: 4, d: 3 };
-        let distant = OwnedDistant::wide(widths, 64, 64, element, element, 1);
-        let touching = OwnedTouching::wide(widths, 2048, element, element, 2);
+        let dim = element.dim(TRIANGLE);
+        let distant = OwnedDistant::wide(widths, 64, 64, dim, dim, 1);
+        let touching = OwnedTouching::wide(widths, 2048, dim, dim, 2);
         let mut matrix = vec![0.0; (n.rows * n.columns) as usize];
         let mut run = n.begin();
         for position in 0..9 {
@@ -228,27 +274,45 @@ enum Call {
 
 const ALL: [Call; 4] = [Call::Look, Call::Distant, Call::Touching, Call::Entries];
 
-/// A case that the call accepts.
+/// A case on mesh M that the call accepts.
 fn good(call: Call) -> Case {
     let m = mesh_m_planned();
-    let count = m.entry_count();
-    Case {
-        run: match call {
-            Call::Look | Call::Distant => m.dense_at(1),
-            Call::Touching => m.dense_at(6),
-            Call::Entries => m.entries_at(6),
-        },
-        matrix: m.matrix(),
-        rows: vec![BLANK; count],
-        columns: vec![BLANK; count],
-        values: numbers(count, 5),
-        lists: m.lists,
-        distant: m.distant,
-        touching: m.touching,
-    }
+    let run = match call {
+        Call::Look | Call::Distant => m.dense_at(1),
+        Call::Touching => m.dense_at(6),
+        Call::Entries => m.entries_at(6),
+    };
+    Case::new(m, run)
+}
+
+/// One on the mesh with quads: at a distant record with a quad as test cell and a triangle as trial cell, and at a touching one with a triangle and a quad.
+fn good_mixed(call: Call) -> Case {
+    let m = mixed_planned();
+    let run = match call {
+        Call::Look | Call::Distant => m.dense_at(6),
+        Call::Touching => m.dense_at(12),
+        Call::Entries => m.entries_at(12),
+    };
+    Case::new(m, run)
 }
 
 impl Case {
+    /// A run at a record, and what its calls are lent.
+    fn new(m: Planned, run: Run) -> Case {
+        let count = m.numbers.entry_count();
+        let record = m.record(run.position);
+        Case {
+            run,
+            matrix: m.matrix(),
+            rows: vec![BLANK; count],
+            columns: vec![BLANK; count],
+            values: numbers(count, 5),
+            distant: m.distant(record, 1),
+            touching: m.touching(record, 9),
+            lists: m.lists,
+        }
+    }
+
     fn call(&mut self, call: Call) -> (Run, Result<(), Refusal>) {
         let plan = self.lists.plan();
         match call {
@@ -297,6 +361,10 @@ impl Case {
 }
 
 fn refused(calls: &[Call], refusal: Refusal, changes: &[fn(&mut Case)]) {
+    refused_on(good, calls, refusal, changes);
+}
+
+fn refused_on(good: fn(Call) -> Case, calls: &[Call], refusal: Refusal, changes: &[fn(&mut Case)]) {
     for call in calls {
         for (k, change) in changes.iter().enumerate() {
             let mut case = good(*call);
@@ -309,14 +377,19 @@ fn refused(calls: &[Call], refusal: Refusal, changes: &[fn(&mut Case)]) {
 #[test]
 fn the_good_cases_are_accepted() {
     for call in ALL {
-        let mut case = good(call);
-        let moved = u32::from(call != Call::Look);
-        let next = Run {
-            position: case.run.position + moved,
-            ..case.run
-        };
-        assert_eq!(case.call(call), (next, Ok(())), "{call:?}");
+        accepted(good(call), call);
+        accepted(good_mixed(call), call);
     }
+}
+
+/// The call is accepted, and hands the run back, at the next record but for a look.
+fn accepted(mut case: Case, call: Call) {
+    let moved = u32::from(call != Call::Look);
+    let next = Run {
+        position: case.run.position + moved,
+        ..case.run
+    };
+    assert_eq!(case.call(call), (next, Ok(())), "{call:?}");
 }
 
 #[test]
@@ -378,6 +451,30 @@ fn refusal_10() {
     );
 }
 
+/// Tables are as long as the dims of the record's own cells say.
+#[test]
+fn refusal_10_by_kind() {
+    refused_on(
+        good_mixed,
+        &[Call::Distant],
+        Refusal::LentLength,
+        &[
+            |c| c.distant.test_table.truncate(3 * 3),
+            |c| c.distant.trial_table.resize(4 * 5, 1.0),
+        ],
+    );
+    refused_on(
+        good_mixed,
+        &[Call::Touching, Call::Entries],
+        Refusal::LentLength,
+        &[
+            |c| c.touching.test_table.resize(5 * 4, 1.0),
+            |c| c.touching.trial_table.truncate(5 * 4),
+            |c| c.touching.trial_table.truncate(5 * 3),
+        ],
+    );
+}
+
 #[test]
 fn refusal_11() {
     refused(
@@ -425,14 +522,14 @@ fn refusal_21_of_the_run() {
             |c| c.run.numbers.cells = 2,
             |c| c.run.numbers.cells = u32::MAX,
             |c| c.run.numbers.vertices = 2,
-            |c| c.run.numbers.edges = 6145,
+            |c| c.run.numbers.edges = 8193,
             |c| c.run.numbers.distant = 10,
             |c| c.run.numbers.distant = u32::MAX,
             |c| c.run.numbers.rows = 10,
             |c| c.run.numbers.columns = 13,
             |c| c.run.numbers.rows = u32::MAX,
-            |c| c.run.numbers.test.a = 4,
-            |c| c.run.numbers.trial.c = u32::MAX,
+            |c| c.run.numbers.test.triangle.a = 4,
+            |c| c.run.numbers.trial.triangle.c = u32::MAX,
             |c| c.run.numbers.integrand.terms = 0,
             |c| c.run.numbers.integrand.first = Term::Bare(5),
             |c| c.run.numbers.integrand = Integrand::two(Term::Bare(0), Term::Scaled(f64::NAN, 0)),
@@ -444,6 +541,202 @@ fn refusal_21_of_the_run() {
             },
         ],
     );
+}
+
+/// The last numbers of the ranges of V and E.
+#[test]
+fn the_most_vertices_and_edges() {
+    for call in ALL {
+        let mut case = good(call);
+        (case.run.numbers.vertices, case.run.numbers.edges) = (4096, 8192);
+        accepted(case, call);
+    }
+}
+
+/// The cells match the kind list.
+#[test]
+fn refusal_21_of_kinds() {
+    refused(
+        &ALL,
+        Refusal::Run,
+        &[
+            |c| c.lists.kinds.truncate(2),
+            |c| c.lists.kinds.push(TRIANGLE),
+            |c| c.lists.kinds.clear(),
+            |c| c.lists.kinds[0] = QUAD,
+            |c| c.lists.kinds[2] = 0,
+            |c| c.lists.kinds[1] = 255,
+            |c| c.run.numbers.triangles = 2,
+            |c| c.run.numbers.triangles = 4,
+            |c| c.run.numbers.triangles = 0,
+            |c| c.run.numbers.triangles = u32::MAX,
+            |c| c.run.numbers.quads = 1,
+            |c| c.run.numbers.quads = u32::MAX,
+            |c| {
+                c.run.numbers.triangles = 2;
+                c.run.numbers.quads = 1;
+            },
+        ],
+    );
+    refused_on(
+        good_mixed,
+        &ALL,
+        Refusal::Run,
+        &[
+            |c| c.lists.kinds[0] = QUAD,
+            |c| c.lists.kinds[1] = TRIANGLE,
+            |c| c.lists.kinds[1] = 5,
+            |c| c.lists.kinds.truncate(3),
+            |c| c.lists.kinds.push(QUAD),
+            |c| c.lists.kinds.fill(TRIANGLE),
+            |c| c.lists.kinds.fill(QUAD),
+            |c| c.run.numbers.triangles = 3,
+            |c| c.run.numbers.quads = 1,
+            |c| {
+                c.run.numbers.triangles = 4;
+                c.run.numbers.quads = 0;
+            },
+            |c| {
+                c.run.numbers.triangles = 3;
+                c.run.numbers.quads = u32::MAX;
+            },
+        ],
+    );
+}
+
+/// The elements are read as check 4 reads them.
+#[test]
+fn refusal_21_of_elements() {
+    let unread: [fn(&mut Case); 3] = [
+        |c| c.run.numbers.test.quad.c = 0,
+        |c| c.run.numbers.trial.quad.a = u32::MAX,
+        |c| c.run.numbers.test.quad.b = 9,
+    ];
+    for change in unread {
+        for call in ALL {
+            let mut case = good(call);
+            change(&mut case);
+            accepted(case, call);
+        }
+    }
+    refused_on(
+        good_mixed,
+        &ALL,
+        Refusal::Run,
+        &[
+            |c| c.run.numbers.test.quad.a = 0,
+            |c| c.run.numbers.test.quad.a = 2,
+            |c| c.run.numbers.trial.triangle.a = 2,
+            |c| c.run.numbers.trial.quad.b = 1,
+            |c| c.run.numbers.trial.quad.c = 7,
+            |c| c.run.numbers.trial.quad.c = 2,
+            |c| c.run.numbers.test.triangle.c = u32::MAX,
+            |c| c.run.numbers.trial.quad.c = u32::MAX - 2,
+            |c| {
+                c.run.numbers.test.triangle.a = 1 << 30;
+                c.run.numbers.test.quad.a = 1 << 30;
+            },
+        ],
+    );
+}
+
+/// The pairs per two kinds add up to S, and S + N = C·C, in whole numbers.
+#[test]
+fn refusal_21_of_pairs() {
+    refused(
+        &ALL,
+        Refusal::Run,
+        &[
+            |c| c.run.numbers.touching = 4,
+            |c| c.run.numbers.touching = u32::MAX,
+            |c| c.run.numbers.distant = 3,
+            |c| c.run.numbers.distant = 5,
+            |c| c.run.numbers.pairs.triangle_triangle = 4,
+            |c| c.run.numbers.pairs.triangle_quad = 1,
+            |c| c.run.numbers.pairs.quad_quad = u32::MAX,
+            |c| {
+                c.run.numbers.pairs.triangle_triangle = 6;
+                c.run.numbers.pairs.quad_quad = u32::MAX;
+            },
+            |c| {
+                c.run.numbers.pairs.triangle_quad = u32::MAX;
+                c.run.numbers.pairs.quad_triangle = 1;
+            },
+            |c| {
+                c.run.numbers.pairs = KindPairs {
+                    triangle_triangle: (1 << 30) + 5,
+                    triangle_quad: 1 << 30,
+                    quad_triangle: 1 << 30,
+                    quad_quad: 1 << 30,
+                };
+            },
+            |c| {
+                c.run.numbers.touching = u32::MAX;
+                c.run.numbers.pairs.triangle_triangle = u32::MAX;
+                c.run.numbers.distant = 10;
+            },
+            |c| {
+                c.run.numbers.touching = u32::MAX - 6;
+                c.run.numbers.pairs.triangle_triangle = u32::MAX - 6;
+                c.run.numbers.distant = 16;
+            },
+            |c| {
+                c.run.numbers.touching = 4;
+                c.run.numbers.distant = 5;
+            },
+            |c| {
+                c.run.numbers.touching = 0;
+                c.run.numbers.pairs.triangle_triangle = 0;
+            },
+        ],
+    );
+    refused_on(
+        good_mixed,
+        &ALL,
+        Refusal::Run,
+        &[
+            |c| c.run.numbers.pairs.triangle_quad = 0,
+            |c| c.run.numbers.pairs.quad_triangle = 2,
+            |c| c.run.numbers.touching = 7,
+            |c| c.run.numbers.distant = 9,
+            |c| {
+                c.run.numbers.touching = 7;
+                c.run.numbers.pairs.quad_quad = 3;
+            },
+            |c| {
+                c.run.numbers.touching = 7;
+                c.run.numbers.distant = 9;
+            },
+        ],
+    );
+}
+
+/// Rows and columns are at most, and DOF lists as long, as the cells' own dims add up to: 14 and 16.
+#[test]
+fn refusal_21_of_rows_and_columns() {
+    refused_on(
+        good_mixed,
+        &ALL,
+        Refusal::Run,
+        &[
+            |c| c.run.numbers.rows = 15,
+            |c| c.run.numbers.columns = 17,
+            |c| c.run.numbers.columns = u32::MAX,
+            |c| c.lists.test_dofs.truncate(12),
+            |c| c.lists.test_dofs.push(0),
+            |c| c.lists.trial_dofs.truncate(14),
+            |c| c.lists.trial_dofs.resize(20, 0),
+            |c| c.lists.work.truncate(47),
+        ],
+    );
+    for (rows, columns) in [(14, 14), (12, 16), (14, 16)] {
+        for call in ALL {
+            let mut case = good_mixed(call);
+            (case.run.numbers.rows, case.run.numbers.columns) = (rows, columns);
+            case.matrix.resize((rows * columns) as usize, 0.0);
+            accepted(case, call);
+        }
+    }
 }
 
 #[test]
@@ -477,6 +770,20 @@ fn refusal_21_of_what_is_lent() {
             |c| c.run.numbers.distant = 3,
         ],
     );
+    refused_on(
+        good_mixed,
+        &[Call::Entries],
+        Refusal::Run,
+        &[
+            |c| c.rows.push(0),
+            |c| c.columns.truncate(84),
+            |c| c.values.truncate(6 * 9),
+            |c| {
+                c.run.numbers.pairs.triangle_triangle = 3;
+                c.run.numbers.pairs.quad_quad = 1;
+            },
+        ],
+    );
 }
 
 #[test]
@@ -485,7 +792,9 @@ fn refusal_22() {
         &ALL,
         Refusal::Record,
         &[
-            |c| c.lists.work[3 * c.run.position as usize] = 28,
+            |c| c.lists.work[3 * c.run.position as usize] = 149,
+            |c| c.lists.work[3 * c.run.position as usize] = 254,
+            |c| c.lists.work[3 * c.run.position as usize] = 256,
             |c| c.lists.work[3 * c.run.position as usize] = u32::MAX,
             |c| c.lists.work[3 * c.run.position as usize + 1] = 3,
             |c| c.lists.work[3 * c.run.position as usize + 2] = u32::MAX,
@@ -493,6 +802,135 @@ fn refusal_22() {
             |c| c.lists.trial_dofs.fill(u32::MAX),
         ],
     );
+    refused_on(
+        good_mixed,
+        &ALL,
+        Refusal::Record,
+        &[
+            |c| c.lists.work[3 * c.run.position as usize] = 149,
+            |c| c.lists.work[3 * c.run.position as usize + 1] = 4,
+            |c| c.lists.work[3 * c.run.position as usize + 2] = 4,
+            |c| c.lists.test_dofs.fill(12),
+            |c| c.lists.trial_dofs.fill(14),
+        ],
+    );
+}
+
+/// A DOF of another cell than the record's two is not read, whatever the cells before have: the last number of a cell and the first of the next.
+#[test]
+fn refusal_22_reads_the_dofs_of_the_record_alone() {
+    for (call, test, trial) in [
+        (Call::Distant, 10..14, 8..11),
+        (Call::Touching, 0..3, 3..8),
+        (Call::Entries, 0..3, 3..8),
+    ] {
+        for place in 0..14 {
+            let mut case = good_mixed(call);
+            case.lists.test_dofs[place] = 12;
+            if test.contains(&place) {
+                case.refused(call, Refusal::Record, &format!("test DOF {place}"));
+            } else {
+                accepted(case, call);
+            }
+        }
+        for place in 0..16 {
+            let mut case = good_mixed(call);
+            case.lists.trial_dofs[place] = u32::MAX;
+            if trial.contains(&place) {
+                case.refused(call, Refusal::Record, &format!("trial DOF {place}"));
+            } else {
+                accepted(case, call);
+            }
+        }
+    }
+}
+
+/// Pairs per two kinds that put cells of other kinds at p, with entry lists of the length that they give.
+fn other_pairs(case: &mut Case, pairs: [u32; 4]) {
+    let [triangle_triangle, triangle_quad, quad_triangle, quad_quad] = pairs;
+    case.run.numbers.pairs = KindPairs {
+        triangle_triangle,
+        triangle_quad,
+        quad_triangle,
+        quad_quad,
+    };
+    let count = [9, 15, 12, 20]
+        .iter()
+        .zip(pairs)
+        .map(|(entries, pairs)| entries * pairs as usize)
+        .sum();
+    case.rows.resize(count, BLANK);
+    case.columns.resize(count, BLANK);
+    case.values.resize(count, 0.25);
+}
+
+/// The record at p is the third touching one, a triangle with a quad.
+#[test]
+fn refusal_22_of_the_entries_call() {
+    for pairs in [
+        [3, 1, 0, 2],
+        [6, 0, 0, 0],
+        [2, 0, 1, 3],
+        [2, 0, 0, 4],
+        [1, 1, 2, 2],
+        [0, 0, 0, 6],
+        [0, 2, 2, 2],
+    ] {
+        let mut case = good_mixed(Call::Entries);
+        other_pairs(&mut case, pairs);
+        case.refused(Call::Entries, Refusal::Record, &format!("{pairs:?}"));
+        case.touching.points = 0;
+        case.run.entries = false;
+        case.refused(Call::Entries, Refusal::Record, &format!("{pairs:?}, dense"));
+        accepted(case, Call::Look);
+        let mut case = good_mixed(Call::Touching);
+        other_pairs(&mut case, pairs);
+        accepted(case, Call::Touching);
+    }
+    for pairs in [[2, 2, 0, 2], [0, 6, 0, 0], [2, 1, 0, 3], [1, 5, 0, 0]] {
+        let mut case = good_mixed(Call::Entries);
+        other_pairs(&mut case, pairs);
+        accepted(case, Call::Entries);
+    }
+}
+
+/// The kind list may give the record's cells other kinds: two cells of other kinds that trade places.
+#[test]
+fn refusal_22_by_the_kind_list() {
+    let mut case = good_mixed(Call::Entries);
+    case.lists.kinds = vec![QUAD, TRIANGLE, TRIANGLE, QUAD];
+    case.refused(Call::Entries, Refusal::Record, "a quad with a triangle");
+    let mut case = good_mixed(Call::Entries);
+    let at = 3 * case.run.position as usize;
+    case.lists.work[at + 1..at + 3].copy_from_slice(&[1, 0]);
+    case.refused(Call::Entries, Refusal::Record, "the cells trade places");
+    let mut case = good_mixed(Call::Entries);
+    case.lists.work[at + 1..at + 3].copy_from_slice(&[2, 3]);
+    accepted(case, Call::Entries);
+}
+
+/// Before N the pairs per two kinds put nothing anywhere: a dense run gets 23.
+#[test]
+fn refusal_23_before_the_touching_records() {
+    for position in 0..10 {
+        for pairs in [[2, 1, 1, 2], [6, 0, 0, 0], [0, 0, 0, 6]] {
+            let mut case = good_mixed(Call::Entries);
+            other_pairs(&mut case, pairs);
+            case.run.entries = false;
+            case.run.position = position;
+            case.refused(Call::Entries, Refusal::Kind, &format!("at {position}"));
+            case.lists.work[3 * position as usize] = 28;
+            case.refused(Call::Entries, Refusal::Kind, "a touching pattern there");
+            case.run.entries = true;
+            case.refused(Call::Entries, Refusal::Run, "an entries run before N");
+        }
+    }
+    for position in 10..16 {
+        let mut case = good_mixed(Call::Entries);
+        case.run.entries = false;
+        case.run.position = position;
+        case.refused(Call::Entries, Refusal::Kind, &format!("at {position}"));
+    }
 }
 
 #[test]
@@ -510,6 +948,8 @@ fn refusal_23() {
         &[|c| {
             c.run.entries = true;
             c.run.numbers.distant = 1;
+            c.run.numbers.touching = 8;
+            c.run.numbers.pairs.triangle_triangle = 8;
         }],
     );
     refused(
@@ -537,7 +977,10 @@ fn forged_runs_do_no_harm() {
     let mut accepted = 0;
     for _ in 0..20_000 {
         let call = ALL[next() as usize % 4];
-        let mut case = good(call);
+        let mut case = match next() % 2 {
+            0 => good(call),
+            _ => good_mixed(call),
+        };
         for _ in 0..=next() % 3 {
             forge(&mut case, &mut next);
         }
@@ -562,13 +1005,14 @@ fn forged_runs_do_no_harm() {
 
 /// Another number at one place.
 fn forge(case: &mut Case, next: &mut impl FnMut() -> u64) {
-    let number = match next() % 3 {
+    let number = match next() % 4 {
         0 => next() as u32 % 12,
         1 => next() as u32 % 5000,
+        2 => u32::MAX - next() as u32 % 12,
         _ => (next() as u32).wrapping_mul(3),
     };
     let n = &mut case.run.numbers;
-    match next() % 20 {
+    match next() % 29 {
         0 => n.cells = number,
         1 => n.vertices = number,
         2 => n.edges = number,
@@ -576,18 +1020,36 @@ fn forge(case: &mut Case, next: &mut impl FnMut() -> u64) {
         4 => n.distant = number,
         5 => n.rows = number,
         6 => n.columns = number,
-        7 => n.test.a = number,
-        8 => n.trial.b = number,
-        9 => n.integrand.terms = number,
-        10 => n.integrand.first = Term::Bare(number),
-        11 => n.integrand.second = Term::Scaled(f64::from_bits(u64::from(number) << 32), number),
-        12 => case.run.position = number,
-        13 => case.run.entries = !case.run.entries,
-        14 => case.lists.work[number as usize % 27] = number,
-        15 => case.lists.test_dofs[number as usize % 9] = number,
-        16 => case.lists.trial_dofs[number as usize % 12] = number,
-        17 => case.distant.test_points = number as usize,
-        18 => case.touching.points = number as usize,
+        7 => n.test.triangle.a = number,
+        8 => n.trial.triangle.b = number,
+        9 => n.test.quad.c = number,
+        10 => n.trial.quad.a = number,
+        11 => n.triangles = number,
+        12 => n.quads = number,
+        13 => n.pairs.triangle_triangle = number,
+        14 => n.pairs.triangle_quad = number,
+        15 => n.pairs.quad_triangle = number,
+        16 => n.pairs.quad_quad = number,
+        17 => n.integrand.terms = number,
+        18 => n.integrand.first = Term::Bare(number),
+        19 => n.integrand.second = Term::Scaled(f64::from_bits(u64::from(number) << 32), number),
+        20 => case.run.position = number,
+        21 => case.run.entries = !case.run.entries,
+        22 => put(&mut case.lists.work, number),
+        23 => put(&mut case.lists.test_dofs, number),
+        24 => put(&mut case.lists.trial_dofs, number),
+        25 => {
+            let place = number as usize % case.lists.kinds.len();
+            case.lists.kinds[place] = number as u8;
+        }
+        26 => case.distant.test_points = number as usize,
+        27 => case.touching.points = number as usize,
         _ => case.matrix.resize(number as usize % 100, 0.0),
     }
+}
+
+/// A number at a place of a list.
+fn put(list: &mut [u32], number: u32) {
+    let place = number as usize % list.len();
+    list[place] = number;
 }

@@ -207,11 +207,14 @@ impl Random {
 /// Planning's numbers, and the lists of a finished entries run with other lent numbers at each pair.
 fn entries_run(mesh: &OwnedMesh, test: Element, trial: Element) -> (Numbers, Case) {
     let (n, lists) = planned(mesh, test, trial, 2, SINGLE_LAYER);
-    let count = n.touching as usize * test.dim() * trial.dim();
-    let mut case = Case::new(&vec![(0, 0, 0.0); count], n.rows, n.columns);
+    let mut case = Case::new(&vec![(0, 0, 0.0); n.entry_count()], n.rows, n.columns);
     let mut run = n.begin_entries();
-    while run.look(lists.plan()).1 != Err(Refusal::NoRecordLeft) {
-        let touching = OwnedTouching::new(3, test, trial, 10 * u64::from(run.position));
+    while let (_, Ok(record)) = run.look(lists.plan()) {
+        let dims = (
+            test.dim(mesh.kinds[record.test_cell as usize]),
+            trial.dim(mesh.kinds[record.trial_cell as usize]),
+        );
+        let touching = OwnedTouching::new(3, dims.0, dims.1, 10 * u64::from(run.position));
         let entry_lists = EntryLists {
             rows: &mut case.rows,
             columns: &mut case.columns,
@@ -221,6 +224,8 @@ fn entries_run(mesh: &OwnedMesh, test: Element, trial: Element) -> (Numbers, Cas
         assert_eq!(answer, Ok(()));
         run = next;
     }
+    let end = Err(Refusal::NoRecordLeft);
+    assert_eq!(run.look(lists.plan()).1, end);
     (n, case)
 }
 
@@ -233,7 +238,12 @@ const ELEMENTS: [Element; 4] = [
 
 #[test]
 fn whole_entries_runs() {
-    for mesh in [mesh_m(), octahedron(), square(4)] {
+    for mesh in [
+        mesh_m(),
+        octahedron(),
+        square(4),
+        edge_shared_and_two_more(),
+    ] {
         for test in ELEMENTS {
             for trial in ELEMENTS {
                 let note = format!("{} cells, {test:?}, {trial:?}", mesh.cells);

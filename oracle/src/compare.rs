@@ -1,8 +1,9 @@
 //! Random jobs, each answered by the published Rust and by the others.
 use oracle::answer::{difference, Answer, Assembler, Refused};
-use oracle::job::{Element, Job};
+use oracle::job::{Elements, Job};
 use oracle::meshes::{self, SHAPES};
-use oracle::numbers::Numbers;
+use oracle::numbers::{Numbers, Size};
+use oracle::quads::{self, Kinds};
 use oracle::random::Random;
 use std::collections::{BTreeMap, BTreeSet};
 
@@ -28,7 +29,7 @@ fn agreement(
 
 #[cfg(rust_at_hand)]
 fn rust_answer(job: &Job, numbers: &Numbers) -> Option<Result<Answer, String>> {
-    Some(oracle::published::answer(job, numbers))
+    Some(oracle::rust::answer(job, numbers))
 }
 
 #[cfg(not(rust_at_hand))]
@@ -40,7 +41,8 @@ fn rust_answer(_: &Job, _: &Numbers) -> Option<Result<Answer, String>> {
 struct Tally {
     outcomes: BTreeMap<String, u64>,
     kinds: BTreeMap<String, u64>,
-    elements: BTreeSet<Element>,
+    elements: BTreeSet<Elements>,
+    patterns: BTreeSet<u32>,
     batches: BTreeSet<u32>,
     points: BTreeSet<usize>,
     pairs: u64,
@@ -56,9 +58,9 @@ impl Tally {
             println!("{n:8} {name}");
         }
         println!(
-            "{} elements of {}, batches from {} to {}, up to {} points, matrices with {} infinite numbers and {} NaN",
+            "{} elements, {} patterns, batches from {} to {}, up to {} points, matrices with {} infinite numbers and {} NaN",
             self.elements.len(),
-            meshes::elements().len(),
+            self.patterns.len(),
             self.batches.first().unwrap_or(&0),
             self.batches.last().unwrap_or(&0),
             self.points.last().unwrap_or(&0),
@@ -71,9 +73,18 @@ impl Tally {
         );
     }
 
+    /// Notes what a job is made of.
+    fn made_of(&mut self, names: &[(String, bool)]) {
+        for (name, holds) in names {
+            *self.kinds.entry(name.clone()).or_default() += *holds as u64;
+        }
+    }
+
     /// Notes what was compared.
     fn note(&mut self, job: &Job, numbers: &Numbers, answer: &Answer) {
         self.elements.extend([job.test, job.trial]);
+        let patterns = answer.work[answer.distant as usize..].iter().map(|r| r[0]);
+        self.patterns.extend(patterns);
         self.batches.insert(job.batch);
         self.points.insert(numbers.most_points());
         self.pairs += answer.work.len() as u64;
@@ -113,22 +124,58 @@ fn run_random(seed: u64, others: Others, tally: &mut Tally) {
     let (job, made) = meshes::job(&mut random, shape, large);
     let (numbers, size) = meshes::numbers(&mut random, &job);
     let unused = made.unused_vertices + made.unused_edges > 0;
-    for (name, holds) in [
+    tally.made_of(&[
         (format!("shape: {:?}", made.shape), true),
-        (format!("numbers: {size:?}"), true),
         (
             "cells repeated with the same list".to_string(),
             made.repeated > 0,
         ),
         ("cells repeated and turned".to_string(), made.turned > 0),
         ("unused vertices or edges".to_string(), unused),
+    ]);
+    tally.made_of(&of_numbers(&job, &numbers, size));
+    run_job(&seed.to_string(), &job, &numbers, others, tally);
+}
+
+fn of_numbers(job: &Job, numbers: &Numbers, size: Size) -> [(String, bool); 2] {
+    let agree = numbers.points().sides_agree(&job.mesh.kinds_present());
+    [
+        (format!("numbers: {size:?}"), true),
+        ("test and trial point counts differ".to_string(), !agree),
+    ]
+}
+
+/// A job of quads, once in three, or of quads and triangles.
+fn random_quads(random: &mut Random) -> (Job, quads::Made) {
+    let shape = quads::SHAPES[random.below(quads::SHAPES.len())];
+    let kinds = [Kinds::Quads, Kinds::Both, Kinds::Both][random.below(3)];
+    let large = random.once_in(12);
+    quads::job(random, shape, kinds, large)
+}
+
+fn run_random_quads(seed: u64, others: Others, tally: &mut Tally) {
+    let mut random = Random::new(seed);
+    let (job, made) = random_quads(&mut random);
+    let (numbers, size) = meshes::numbers(&mut random, &job);
+    let cells = match job.mesh.kinds_present().as_slice() {
+        [3] => "triangles",
+        [4] => "quads",
+        _ => "quads and triangles, the Rust corrected",
+    };
+    tally.made_of(&[
+        (format!("shape: {:?}", made.shape), true),
+        (format!("cells: {cells}"), true),
         (
-            "test and trial point counts differ".to_string(),
-            numbers.test_points != numbers.trial_points,
+            "cells repeated with the same list".to_string(),
+            made.repeated > 0,
         ),
-    ] {
-        *tally.kinds.entry(name).or_default() += holds as u64;
-    }
+        (
+            "cells that meet outside the table".to_string(),
+            made.misfits + made.crossed > 0,
+        ),
+        ("unused vertices or edges".to_string(), made.unused > 0),
+    ]);
+    tally.made_of(&of_numbers(&job, &numbers, size));
     run_job(&seed.to_string(), &job, &numbers, others, tally);
 }
 
@@ -152,16 +199,32 @@ fn run_all(seed: u64, jobs: u64, f: impl Fn(u64, Others, &mut Tally)) -> bool {
     tally.differ == 0
 }
 
-/// Random jobs.
+/// Random jobs of triangles.
 pub fn run(seed: u64, jobs: u64) -> bool {
     run_all(seed, jobs, run_random)
 }
 
+/// Random jobs with quads.
+pub fn run_quads(seed: u64, jobs: u64) -> bool {
+    run_all(seed, jobs, run_random_quads)
+}
+
 /// The largest meshes.
 pub fn run_large(seed: u64, jobs: u64) -> bool {
+    run_all_large(seed, jobs, meshes::large_job)
+}
+
+/// The largest meshes with quads.
+pub fn run_large_quads(seed: u64, jobs: u64) -> bool {
+    run_all_large(seed, jobs, quads::large_job)
+}
+
+type MakeLarge = fn(&mut Random, usize) -> (&'static str, Job);
+
+fn run_all_large(seed: u64, jobs: u64, make: MakeLarge) -> bool {
     run_all(seed, jobs, |seed, others, tally| {
         let mut random = Random::new(seed);
-        let (name, job) = meshes::large_job(&mut random, seed as usize);
+        let (name, job) = make(&mut random, seed as usize);
         let (numbers, _) = meshes::numbers(&mut random, &job);
         *tally.kinds.entry(name.to_string()).or_default() += 1;
         run_job(&seed.to_string(), &job, &numbers, others, tally);
@@ -184,8 +247,10 @@ pub fn run_refusals(seed: u64, jobs: u64) -> bool {
     let mut differ = 0;
     for seed in seed..seed + jobs {
         let mut random = Random::new(seed);
-        let shape = SHAPES[random.below(SHAPES.len())];
-        let (mut job, _) = meshes::job(&mut random, shape, false);
+        let mut job = match random.once_in(2) {
+            true => meshes::job(&mut random, SHAPES[seed as usize % SHAPES.len()], false).0,
+            false => random_quads(&mut random).0,
+        };
         for _ in 0..random.from_to(1, 2) {
             meshes::spoil(&mut random, &mut job);
         }

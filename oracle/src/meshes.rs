@@ -1,12 +1,12 @@
-//! Random meshes of every kind, and jobs and lent numbers on them.
-use crate::job::{dim, Element, Integrand, Job, Mesh, Term};
-use crate::numbers::{Numbers, Points, Size};
+//! Random meshes of triangles, of every shape, and jobs and lent numbers on them; faults in jobs.
+use crate::job::{dim, Element, Elements, Integrand, Job, Mesh, Term, QUAD, TRIANGLE};
+use crate::numbers::{touching_rules, Numbers, Points, Size, DISTANT};
 use crate::random::Random;
 use std::collections::{HashMap, HashSet};
 
 type Cells = Vec<[u32; 3]>;
 
-/// The kinds of meshes.
+/// The shapes of meshes.
 #[derive(Clone, Copy, Debug, PartialEq, Eq, PartialOrd, Ord)]
 pub enum Shape {
     OneCell,
@@ -32,13 +32,13 @@ pub const SHAPES: [Shape; 9] = [
     Shape::Pinched,
 ];
 
-/// Every element of dim 1 to 10.
-pub fn elements() -> Vec<Element> {
+/// Every element of cells of a kind whose dim is 1 to 10.
+pub fn elements(kind: u8) -> Vec<Element> {
     let mut elements = vec![];
     for a in 0..=3 {
         for b in 0..=3 {
             for c in 0..=10 {
-                if (1..=10).contains(&dim([a, b, c])) {
+                if (1..=10).contains(&dim(kind, [a, b, c])) {
                     elements.push([a, b, c]);
                 }
             }
@@ -191,6 +191,9 @@ fn cells_of(random: &mut Random, shape: Shape, large: bool) -> Cells {
     }
 }
 
+/// The element of a kind that no cell has: no dim in range, so that it would be noticed if it were read.
+pub const ABSENT: Element = [5, 5, 50];
+
 /// A random map of 0, 1, 2, … to other numbers, with gaps at times.
 fn renumbering(random: &mut Random, used: usize, most: usize) -> (Vec<u32>, u32) {
     let gaps = if random.once_in(2) {
@@ -206,50 +209,52 @@ fn renumbering(random: &mut Random, used: usize, most: usize) -> (Vec<u32>, u32)
     (numbers, n as u32)
 }
 
-/// Vertices and edges numbered at random, unused ones among them.
-fn numbered(random: &mut Random, cells: &[[u32; 3]]) -> Mesh {
-    let used = 1 + *cells.iter().flatten().max().unwrap() as usize;
-    let (vertex, vertices) = renumbering(random, used, 4096);
-    let cell_vertices = cells
-        .iter()
-        .flatten()
-        .map(|v| vertex[*v as usize])
-        .collect();
-    let mut met = HashMap::new();
-    let edge_order = cells
-        .iter()
-        .flat_map(|[a, b, c]| [(b, c), (a, c), (a, b)])
-        .map(|(a, b)| {
-            let next = met.len();
-            *met.entry((a.min(b), a.max(b))).or_insert(next)
-        })
-        .collect::<Vec<_>>();
-    let (edge, edges) = renumbering(random, met.len(), 6144);
-    Mesh {
-        cells: cells.len() as u32,
-        vertices,
-        edges,
-        cell_vertices,
-        cell_edges: edge_order.into_iter().map(|e| edge[e]).collect(),
-    }
+/// The two ends of each edge of a cell, the smaller first.
+fn cell_edges(cell: &[u32]) -> Vec<(u32, u32)> {
+    let ends = match *cell {
+        [a, b, c] => vec![(b, c), (a, c), (a, b)],
+        [a, b, c, d] => vec![(a, b), (a, c), (b, d), (c, d)],
+        _ => unreachable!("a cell has three or four vertices"),
+    };
+    ends.into_iter()
+        .map(|(a, b)| (a.min(b), a.max(b)))
+        .collect()
 }
 
 /// A mesh with its edges numbered as they are met, vertices kept.
-pub fn plain_mesh(cells: &[[u32; 3]]) -> Mesh {
+pub fn plain_mesh(cells: &[impl AsRef<[u32]>]) -> Mesh {
+    let cells = cells.iter().map(|cell| cell.as_ref()).collect::<Vec<_>>();
     let mut met = HashMap::new();
-    let mut cell_edges = vec![];
-    for [a, b, c] in cells {
-        for (a, b) in [(b, c), (a, c), (a, b)] {
-            let next = met.len() as u32;
-            cell_edges.push(*met.entry((a.min(b), a.max(b))).or_insert(next));
-        }
+    let mut edge_numbers = vec![];
+    for ends in cells.iter().flat_map(|cell| cell_edges(cell)) {
+        let next = met.len() as u32;
+        edge_numbers.push(*met.entry(ends).or_insert(next));
     }
     Mesh {
         cells: cells.len() as u32,
-        vertices: 1 + cells.iter().flatten().max().unwrap(),
+        vertices: 1 + *cells.iter().copied().flatten().max().unwrap(),
         edges: met.len() as u32,
-        cell_vertices: cells.as_flattened().to_vec(),
-        cell_edges,
+        kinds: cells.iter().map(|cell| cell.len() as u8).collect(),
+        cell_vertices: cells.concat(),
+        cell_edges: edge_numbers,
+    }
+}
+
+/// Vertices and edges numbered at random, unused ones among them.
+pub fn numbered(random: &mut Random, cells: &[impl AsRef<[u32]>]) -> Mesh {
+    let mut mesh = plain_mesh(cells);
+    let (vertex, vertices) = renumbering(random, mesh.vertices as usize, 4096);
+    let (edge, edges) = renumbering(random, mesh.edges as usize, 8192);
+    for v in &mut mesh.cell_vertices {
+        *v = vertex[*v as usize];
+    }
+    for e in &mut mesh.cell_edges {
+        *e = edge[*e as usize];
+    }
+    Mesh {
+        vertices,
+        edges,
+        ..mesh
     }
 }
 
@@ -265,7 +270,7 @@ pub struct Made {
     pub unused_edges: u32,
 }
 
-fn unused(count: u32, used: &[u32]) -> u32 {
+pub fn unused(count: u32, used: &[u32]) -> u32 {
     count - used.iter().collect::<HashSet<_>>().len() as u32
 }
 
@@ -302,14 +307,14 @@ pub fn mesh(random: &mut Random, shape: Shape, large: bool) -> (Mesh, Made) {
     (mesh, made)
 }
 
-fn term(random: &mut Random) -> Term {
+pub fn term(random: &mut Random) -> Term {
     Term {
         kind: random.below(5) as u32,
         factor: random.once_in(2).then(|| random.float(-2, 1)),
     }
 }
 
-fn batch(random: &mut Random) -> u32 {
+pub fn batch(random: &mut Random) -> u32 {
     match random.below(6) {
         0 => 1,
         1 => 2,
@@ -320,9 +325,16 @@ fn batch(random: &mut Random) -> u32 {
     }
 }
 
+fn of_triangles(triangle: Element) -> Elements {
+    Elements {
+        triangle,
+        quad: ABSENT,
+    }
+}
+
 pub fn job(random: &mut Random, shape: Shape, large: bool) -> (Job, Made) {
     let (mesh, made) = mesh(random, shape, large);
-    let elements = elements();
+    let elements = elements(TRIANGLE);
     let test = elements[random.below(elements.len())];
     let trial = if random.once_in(3) {
         test
@@ -336,8 +348,8 @@ pub fn job(random: &mut Random, shape: Shape, large: bool) -> (Job, Made) {
     let batch = batch(random);
     let job = Job {
         mesh,
-        test,
-        trial,
+        test: of_triangles(test),
+        trial: of_triangles(trial),
         batch,
         integrand,
     };
@@ -370,8 +382,8 @@ pub fn large_job(random: &mut Random, turn: usize) -> (&'static str, Job) {
     let elements = [[1, 0, 0], [0, 0, 1], [0, 1, 0], [1, 0, 1]];
     let job = Job {
         mesh: numbered(random, &cells),
-        test: elements[random.below(4)],
-        trial: elements[random.below(4)],
+        test: of_triangles(elements[random.below(4)]),
+        trial: of_triangles(elements[random.below(4)]),
         batch: batch(random),
         integrand: Integrand {
             first: term(random),
@@ -381,26 +393,35 @@ pub fn large_job(random: &mut Random, turn: usize) -> (&'static str, Job) {
     (name, job)
 }
 
-/// How many points a rule has: up to 3 and 4, or, where `many`, up to the paper's most.
-fn points(random: &mut Random, many: bool) -> Points {
-    let (distant, touching) = if many { (64, 2048) } else { (3, 4) };
-    let test = random.from_to(1, distant);
-    let trial = if random.once_in(3) {
-        random.from_to(1, distant)
-    } else {
-        test
+/// How many points a rule has: up to 3 and 4, or, where `many`, up to the paper's most, on a mesh with quads for one rule in ten.
+fn points(random: &mut Random, kinds_present: &[u8], many: bool) -> Points {
+    let most = if many { 64 } else { 3 };
+    let mut points = Points {
+        touching: vec![0; DISTANT],
+        test: [0; 2],
+        trial: [0; 2],
     };
-    Points {
-        touching: (0..28).map(|_| random.from_to(1, touching)).collect(),
-        test,
-        trial,
+    for kind in kinds_present {
+        let quad = (*kind == QUAD) as usize;
+        points.test[quad] = random.from_to(1, most);
+        points.trial[quad] = if random.once_in(3) {
+            random.from_to(1, most)
+        } else {
+            points.test[quad]
+        };
     }
+    let triangles = kinds_present == [TRIANGLE];
+    for rule in touching_rules(kinds_present) {
+        let many = many && (triangles || random.once_in(10));
+        points.touching[rule] = random.from_to(1, if many { 2048 } else { 4 });
+    }
+    points
 }
 
 /// Lent numbers. Test and trial point counts differ one time in three or so. One job in 20 of those with up to four cells has many points.
 pub fn numbers(random: &mut Random, job: &Job) -> (Numbers, Size) {
     let many = job.mesh.cells <= 4 && random.once_in(20);
-    let points = points(random, many);
+    let points = points(random, &job.mesh.kinds_present(), many);
     let size = match random.below(10) {
         0 => Size::Small,
         1 => Size::Large,
@@ -429,18 +450,44 @@ fn spoil_list(random: &mut Random, list: &mut Vec<u32>, count: u32) {
     }
 }
 
+fn spoil_kinds(random: &mut Random, kinds: &mut Vec<u8>) {
+    let at = random.below(kinds.len().max(1));
+    match random.below(4) {
+        0 => drop(kinds.pop()),
+        1 => kinds.push(TRIANGLE),
+        _ if kinds.is_empty() => (),
+        2 => kinds[at] = TRIANGLE + QUAD - kinds[at],
+        _ => kinds[at] = [0, 2, 5, 255][random.below(4)],
+    }
+}
+
+fn spoil_elements(random: &mut Random, elements: &mut Elements) {
+    let mut element = [5, 5, 13].map(|n| random.below(n) as u32);
+    if random.once_in(2) {
+        element[0] = 0;
+        element[1] = 0;
+    }
+    match random.below(4) {
+        0 => elements.triangle = element,
+        1 => elements.quad = element,
+        2 => *elements = Elements::both(element),
+        _ => elements.quad = elements.triangle,
+    }
+}
+
 /// One fault, or what may be one.
 pub fn spoil(random: &mut Random, job: &mut Job) {
     let mesh = &mut job.mesh;
-    match random.below(10) {
+    match random.below(11) {
         0 => mesh.cells = [0, 1, 2048, 2049, mesh.cells + 1][random.below(5)],
         1 => mesh.vertices = other(random, &[0, 2, 3, 4096, 4097, mesh.vertices - 1]),
-        2 => mesh.edges = other(random, &[0, 2, 3, 6144, 6145, mesh.edges - 1]),
+        2 => mesh.edges = other(random, &[0, 2, 3, 8192, 8193, mesh.edges - 1]),
         3 => spoil_list(random, &mut mesh.cell_vertices, mesh.vertices),
         4 | 5 => spoil_list(random, &mut mesh.cell_edges, mesh.edges),
-        6 => job.test = [random.below(5), random.below(5), random.below(13)].map(|n| n as u32),
-        7 => job.trial = [0, 0, random.below(13) as u32],
+        6 => spoil_elements(random, &mut job.test),
+        7 => spoil_elements(random, &mut job.trial),
         8 => job.batch = other(random, &[0, 1, 65535, 65536, u32::MAX]),
+        9 => spoil_kinds(random, &mut mesh.kinds),
         _ => {
             job.integrand.first.kind = other(random, &[4, 5]);
             job.integrand.second = random.once_in(2).then(|| Term {

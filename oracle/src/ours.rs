@@ -1,19 +1,21 @@
 //! Our side: the static library, by way of the host crate.
 use crate::answer::{Answer, Assembler, Entries, Refused, Space};
-use crate::job::{dim, Element, Job, Term};
-use crate::numbers::{Numbers, DISTANT};
+use crate::job::{Elements, Job, Term};
+use crate::numbers::{rule_of, Numbers, DISTANT};
 use seivalto::{Distant, EntryLists, Lists, Mesh, Refusal, Run, Touching};
 
 pub struct Ours;
 
-impl From<Refusal> for Refused {
-    fn from(refusal: Refusal) -> Self {
-        Refused(refusal.number())
-    }
+fn refused(refusal: Refusal) -> Refused {
+    Refused(refusal.number())
 }
 
-fn element([a, b, c]: Element) -> seivalto::Element {
-    seivalto::Element { a, b, c }
+fn elements(elements: Elements) -> seivalto::Elements {
+    let element = |[a, b, c]: [u32; 3]| seivalto::Element { a, b, c };
+    seivalto::Elements {
+        triangle: element(elements.triangle),
+        quad: element(elements.quad),
+    }
 }
 
 fn term(term: Term) -> seivalto::Term {
@@ -23,8 +25,9 @@ fn term(term: Term) -> seivalto::Term {
     }
 }
 
-/// The lists that planning writes, and the numbers that it hands back.
+/// The kind list, the lists that planning writes, and the numbers that it hands back.
 pub struct Plan {
+    pub kinds: Vec<u8>,
     pub test: Space,
     pub trial: Space,
     pub work: Vec<u32>,
@@ -34,6 +37,7 @@ pub struct Plan {
 impl Plan {
     fn lent(&self) -> seivalto::Plan<'_> {
         seivalto::Plan {
+            kinds: &self.kinds,
             test_dofs: &self.test.dofs,
             trial_dofs: &self.trial.dofs,
             work: &self.work,
@@ -41,8 +45,8 @@ impl Plan {
     }
 }
 
-fn empty_space(cells: usize, element: Element) -> Space {
-    let n = cells * dim(element);
+fn empty_space(cells: usize, kinds: &[u8], elements: Elements) -> Space {
+    let n = elements.places(kinds);
     Space {
         dofs: vec![0; n],
         count: 0,
@@ -61,11 +65,11 @@ pub struct Planner<'a> {
 
 impl<'a> Planner<'a> {
     pub fn new(job: &'a Job) -> Self {
-        let cells = job.mesh.cells as usize;
+        let (cells, kinds) = (job.mesh.cells as usize, &job.mesh.kinds);
         Self {
             job,
-            test: empty_space(cells, job.test),
-            trial: empty_space(cells, job.trial),
+            test: empty_space(cells, kinds, job.test),
+            trial: empty_space(cells, kinds, job.trial),
             work: vec![0; 3 * cells * cells],
         }
     }
@@ -77,6 +81,7 @@ impl<'a> Planner<'a> {
             cells: mesh.cells,
             vertices: mesh.vertices,
             edges: mesh.edges,
+            kinds: &mesh.kinds,
             cell_vertices: &mesh.cell_vertices,
             cell_edges: &mesh.cell_edges,
         };
@@ -96,8 +101,8 @@ impl<'a> Planner<'a> {
         };
         seivalto::plan(
             mesh,
-            element(job.test),
-            element(job.trial),
+            elements(job.test),
+            elements(job.trial),
             job.batch,
             integrand,
             lists,
@@ -109,6 +114,7 @@ impl<'a> Planner<'a> {
         self.test.count = numbers.rows;
         self.trial.count = numbers.columns;
         Plan {
+            kinds: self.job.mesh.kinds.clone(),
             test: self.test,
             trial: self.trial,
             work: self.work,
@@ -119,7 +125,7 @@ impl<'a> Planner<'a> {
 
 fn touching<'a>(numbers: &'a Numbers, pattern: usize, t: usize, r: usize) -> Touching<'a> {
     Touching {
-        points: numbers.touching_points[pattern],
+        points: numbers.points_of(pattern, false),
         weights: &numbers.weights[pattern],
         test_table: &numbers.test_tables[pattern],
         trial_table: &numbers.trial_tables[pattern],
@@ -129,17 +135,17 @@ fn touching<'a>(numbers: &'a Numbers, pattern: usize, t: usize, r: usize) -> Tou
     }
 }
 
-fn distant<'a>(numbers: &'a Numbers, t: usize, r: usize) -> Distant<'a> {
+fn distant<'a>(numbers: &'a Numbers, rule: usize, t: usize, r: usize) -> Distant<'a> {
     Distant {
-        test_points: numbers.test_points,
-        trial_points: numbers.trial_points,
-        test_weights: &numbers.test_weights,
-        trial_weights: &numbers.trial_weights,
-        test_table: &numbers.test_tables[DISTANT],
-        trial_table: &numbers.trial_tables[DISTANT],
-        kernel: numbers.kernel(DISTANT, t, r),
-        test_geometry: numbers.geometry(DISTANT, false, t),
-        trial_geometry: numbers.geometry(DISTANT, true, r),
+        test_points: numbers.points_of(rule, false),
+        trial_points: numbers.points_of(rule, true),
+        test_weights: &numbers.test_weights[rule - DISTANT],
+        trial_weights: &numbers.trial_weights[rule - DISTANT],
+        test_table: &numbers.test_tables[rule],
+        trial_table: &numbers.trial_tables[rule],
+        kernel: numbers.kernel(rule, t, r),
+        test_geometry: numbers.geometry(rule, false, t),
+        trial_geometry: numbers.geometry(rule, true, r),
     }
 }
 
@@ -157,7 +163,10 @@ pub fn assemble(plan: &Plan, numbers: &Numbers, matrix: &mut [f64]) -> Result<()
         };
         let (t, r) = (record.test_cell as usize, record.trial_cell as usize);
         run = accepted(match record.pattern {
-            255 => run.add_distant(plan.lent(), distant(numbers, t, r), matrix),
+            255 => {
+                let rule = rule_of(&plan.kinds, [255, record.test_cell, record.trial_cell]);
+                run.add_distant(plan.lent(), distant(numbers, rule, t, r), matrix)
+            }
             pattern => {
                 let lent = touching(numbers, pattern as usize, t, r);
                 run.add_touching(plan.lent(), lent, matrix)
@@ -168,7 +177,7 @@ pub fn assemble(plan: &Plan, numbers: &Numbers, matrix: &mut [f64]) -> Result<()
 
 /// A whole entries run.
 pub fn entries(plan: &Plan, numbers: &Numbers) -> Result<Entries, Refusal> {
-    let n = plan.numbers.touching as usize * plan.numbers.test.dim() * plan.numbers.trial.dim();
+    let n = plan.numbers.entry_count();
     let mut entries = Entries {
         rows: vec![0; n],
         columns: vec![0; n],
@@ -201,11 +210,12 @@ fn owners(space: &Space) -> Vec<u32> {
 impl Assembler for Ours {
     fn answer(&self, job: &Job, numbers: &Numbers) -> Result<Answer, Refused> {
         let mut planner = Planner::new(job);
-        let planned = planner.plan()?;
+        let planned = planner.plan().map_err(refused)?;
+        let pairs = planned.pairs;
         let mut plan = planner.finish(planned);
         let mut matrix = numbers.start((planned.rows * planned.columns) as usize);
-        assemble(&plan, numbers, &mut matrix)?;
-        let entries = entries(&plan, numbers)?;
+        assemble(&plan, numbers, &mut matrix).map_err(refused)?;
+        let entries = entries(&plan, numbers).map_err(refused)?;
         plan.test.owners = owners(&plan.test);
         plan.trial.owners = owners(&plan.trial);
         Ok(Answer {
@@ -215,6 +225,13 @@ impl Assembler for Ours {
                 .map(|r| [r[0], r[1], r[2]])
                 .collect(),
             distant: planned.distant,
+            kind_cells: [planned.triangles, planned.quads],
+            kind_pairs: [
+                pairs.triangle_triangle,
+                pairs.triangle_quad,
+                pairs.quad_triangle,
+                pairs.quad_quad,
+            ],
             test: plan.test,
             trial: plan.trial,
             entries,

@@ -28,9 +28,9 @@
 //!     entry rows, entry columns (S·test dim·trial dim numbers each), entry values (floats)
 //!     matrix     rows·columns floats, from a start that has float i of the pool at place i
 use oracle::answer::Answer;
-use oracle::job::{dim, Job, Term};
+use oracle::job::{Job, Term, TRIANGLE};
 use oracle::meshes::{self, SHAPES};
-use oracle::numbers::{geometry_pool, number_pool, List, Numbers, Points, Size, DISTANT};
+use oracle::numbers::{geometry_pool, number_pool, rule_of, List, Numbers, Points, Size, DISTANT};
 use oracle::random::Random;
 use std::fmt::Write;
 
@@ -83,12 +83,17 @@ fn factor(term: Option<Term>) -> f64 {
     term.and_then(|t| t.factor).unwrap_or(0.0)
 }
 
+/// Test points and trial points of a distant pair, points of a touching one.
+fn point_counts(numbers: &Numbers) -> [usize; 3] {
+    [(DISTANT, false), (DISTANT, true), (0, false)]
+        .map(|(rule, trial)| numbers.points_of(rule, trial))
+}
+
 fn lengths(job: &Job, numbers: &Numbers, answer: Option<&Answer>) -> Vec<u32> {
     let c = job.mesh.cells as usize;
-    let (m, n) = (dim(job.test), dim(job.trial));
+    let (m, n) = (job.test.dim(TRIANGLE), job.trial.dim(TRIANGLE));
     let (k, d) = (numbers.width, numbers.rows);
-    let (t, r) = (numbers.test_points, numbers.trial_points);
-    let p = numbers.touching_points[0];
+    let [t, r, p] = point_counts(numbers);
     let written = answer.map_or([0; 4], |a| {
         let owners = [a.test.owners.len(), a.trial.owners.len()];
         [owners[0], owners[1], a.matrix.len(), a.entries.values.len()]
@@ -117,15 +122,10 @@ fn question(job: &Job, numbers: &Numbers, answer: Option<&Answer>) -> String {
     let refusal = if answer.is_some() { 0 } else { 7 };
     let mesh = &job.mesh;
     let (first, second) = (Some(job.integrand.first), job.integrand.second);
-    let ([a, b, c], [d, e, f]) = (job.test, job.trial);
+    let ([a, b, c], [d, e, f]) = (job.test.triangle, job.trial.triangle);
     let ([g, h], [i, j]) = (form(first), form(second));
     let terms = 1 + second.is_some() as u32;
-    let points = [
-        numbers.test_points,
-        numbers.trial_points,
-        numbers.touching_points[0],
-    ];
-    let [t, r, p] = points.map(|n| n as u32);
+    let [t, r, p] = point_counts(numbers).map(|n| n as u32);
     [
         packed(&[mesh.cells, mesh.vertices, mesh.edges, job.batch]),
         digits([a, b, c, d, e, f, terms, g, h, i, j, t, r, p, refusal, 0]),
@@ -139,13 +139,13 @@ fn question(job: &Job, numbers: &Numbers, answer: Option<&Answer>) -> String {
 
 /// Where the lists lent to the add of a record begin.
 fn lent(job: &Job, numbers: &Numbers, record: [u32; 3]) -> [u32; 8] {
-    let [pattern, t, r] = record.map(|n| n as usize);
-    let rule = if pattern == 255 { DISTANT } else { pattern };
-    let points = numbers.touching_points[0];
-    let (tp, rp) = match rule {
-        DISTANT => (numbers.test_points, numbers.trial_points),
-        _ => (points, points),
-    };
+    let rule = rule_of(&job.mesh.kinds, record);
+    let [_, t, r] = record.map(|n| n as usize);
+    let (tp, rp) = (
+        numbers.points_of(rule, false),
+        numbers.points_of(rule, true),
+    );
+    let (m, n) = (job.test.dim(TRIANGLE), job.trial.dim(TRIANGLE));
     let trial_weights = match rule {
         DISTANT => numbers.list_place(List::TrialWeights, rule, rp),
         _ => 0,
@@ -153,8 +153,8 @@ fn lent(job: &Job, numbers: &Numbers, record: [u32; 3]) -> [u32; 8] {
     [
         numbers.list_place(List::TestWeights, rule, tp),
         trial_weights,
-        numbers.list_place(List::TestTable, rule, numbers.rows * tp * dim(job.test)),
-        numbers.list_place(List::TrialTable, rule, numbers.rows * rp * dim(job.trial)),
+        numbers.list_place(List::TestTable, rule, numbers.rows * tp * m),
+        numbers.list_place(List::TrialTable, rule, numbers.rows * rp * n),
         numbers.kernel_place(rule, t, r),
         10 * numbers.geometry_place(rule, false, t),
         10 * numbers.geometry_place(rule, true, r),
@@ -205,9 +205,9 @@ fn points(random: &mut Random) -> Points {
         test
     };
     Points {
-        touching: vec![random.from_to(1, 3); 28],
-        test,
-        trial,
+        test: [test; 2],
+        trial: [trial; 2],
+        ..Points::of(random.from_to(1, 3), 0)
     }
 }
 
@@ -219,7 +219,7 @@ fn case(random: &mut Random, i: usize, geometry: &[f64], pool: &[f64]) -> String
         if !small(&job) {
             continue;
         }
-        match oracle::published::answer(&job, &numbers) {
+        match oracle::rust::answer(&job, &numbers) {
             Err(_) => return question(&job, &numbers, None),
             Ok(answer) if small_answer(&answer) => {
                 return question(&job, &numbers, Some(&answer)) + &reply(&job, &numbers, &answer)

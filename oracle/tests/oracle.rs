@@ -1,24 +1,25 @@
 //! The oracle on the paper's meshes, and what a comparison notices.
 #![cfg(rust_at_hand)]
 use oracle::answer::{difference, Answer, Assembler};
-use oracle::job::{Element, Integrand, Job, Mesh};
-use oracle::meshes;
-use oracle::model::Model;
+use oracle::job::{Element, Elements, Integrand, Job, Mesh};
+use oracle::model::{pattern, Model};
 use oracle::numbers::{Numbers, Points, Size};
-use oracle::published;
+use oracle::quads::{self, Kinds};
 use oracle::random::Random;
+use oracle::{meshes, rust};
 
 fn job(vertices: u32, edges: u32, cells: &[u32], cell_edges: &[u32], element: Element) -> Job {
+    job_on(
+        Mesh::of_triangles(vertices, edges, cells.to_vec(), cell_edges.to_vec()),
+        element,
+    )
+}
+
+fn job_on(mesh: Mesh, element: Element) -> Job {
     Job {
-        mesh: Mesh {
-            cells: (cells.len() / 3) as u32,
-            vertices,
-            edges,
-            cell_vertices: cells.to_vec(),
-            cell_edges: cell_edges.to_vec(),
-        },
-        test: element,
-        trial: element,
+        mesh,
+        test: Elements::both(element),
+        trial: Elements::both(element),
         batch: 2,
         integrand: Integrand::bare(0),
     }
@@ -30,13 +31,8 @@ fn mesh_m(element: Element) -> Job {
 }
 
 fn rust(job: &Job) -> Result<Answer, String> {
-    let points = Points {
-        touching: vec![1; 28],
-        test: 1,
-        trial: 1,
-    };
-    let numbers = Numbers::new(job, points, Size::Ordinary, &mut Random::new(3));
-    published::answer(job, &numbers)
+    let numbers = Numbers::new(job, Points::of(1, 1), Size::Ordinary, &mut Random::new(3));
+    rust::answer(job, &numbers)
 }
 
 #[test]
@@ -84,39 +80,67 @@ fn m7() {
     assert_eq!(rust(&twice).unwrap().work, work);
 }
 
-/// The Rust asks for the rules of its patterns in the order of the paper's numbers.
+/// The Rust asks for the rules of its patterns in the order of the paper's numbers, and for quads alone from 100 on; so it does a second time, for the
+/// touching entries.
 #[test]
 fn patterns_in_order() {
-    rust(&mesh_m([1, 0, 0])).unwrap();
-    let asked = bempp_quadrature::duffy::asked();
-    let places = asked
-        .iter()
-        .map(|con| con.local_indices.clone())
-        .collect::<Vec<_>>();
-    assert_eq!(places[4], [(1, 1)]);
-    assert_eq!(places[9 + 2 * (3 + 2)], [(0, 0), (2, 1)]);
-    assert_eq!(places[9 + 2 * (3 + 2) + 1], [(2, 0), (0, 1)]);
-    assert_eq!(places[27], [(0, 0), (1, 1), (2, 2)]);
-    assert_eq!(places[..28], places[28..]);
+    let triangle = vec![0, 1, 2];
+    let quad = vec![3, 4, 5, 6];
+    for (cells, first, last) in [
+        (vec![triangle.clone()], 0, 27),
+        (vec![triangle, quad.clone()], 0, 148),
+        (vec![quad], 100, 148),
+    ] {
+        rust(&job_on(meshes::plain_mesh(&cells), [1, 0, 0])).unwrap();
+        let numbers = bempp_quadrature::duffy::asked()
+            .into_iter()
+            .map(|([test, trial], con)| pattern(test, trial, &con.local_indices).unwrap())
+            .collect::<Vec<_>>();
+        let (dense, entries) = numbers.split_at(numbers.len() / 2);
+        assert_eq!(dense, (first..=last).collect::<Vec<_>>());
+        assert_eq!(dense, entries);
+    }
+}
+
+/// Colours, DOFs and pairs of a prism: two triangles and three quads.
+#[test]
+fn prism() {
+    let cells = [
+        vec![0, 1, 3, 4],
+        vec![0, 1, 2],
+        vec![1, 2, 4, 5],
+        vec![3, 4, 5],
+        vec![0, 2, 3, 5],
+    ];
+    let job = job_on(meshes::plain_mesh(&cells), [1, 0, 0]);
+    let answer = rust(&job).unwrap();
+    assert_eq!(answer.test.dofs[..7], [0, 1, 2, 3, 0, 1, 4]);
+    assert_eq!(answer.test.colours, [0, 1, 2, 1, 3]);
+    assert_eq!(answer.work[..2], [[255, 3, 1], [255, 1, 3]]);
+    assert_eq!((answer.distant, answer.kind_cells), (2, [2, 3]));
+    assert_eq!(answer.kind_pairs, [2, 6, 6, 9]);
 }
 
 #[test]
 fn a_change_of_any_list_is_noticed() {
     let mut random = Random::new(11);
-    let (job, _) = meshes::job(&mut random, meshes::Shape::Sphere, false);
+    let (job, _) = quads::job(&mut random, quads::Shape::Sheet, Kinds::Both, false);
+    assert!(job.mesh.is_mixed());
     let (numbers, _) = meshes::numbers(&mut random, &job);
-    let answer = published::answer(&job, &numbers).unwrap();
+    let answer = rust::answer(&job, &numbers).unwrap();
     assert_eq!(
         difference(&answer, &Model.answer(&job, &numbers).unwrap()),
         None
     );
-    let changes: [fn(&mut Answer); 11] = [
+    let changes: [fn(&mut Answer); 13] = [
         |a| a.test.dofs[0] += 1,
         |a| a.trial.count += 1,
         |a| a.test.owners[1] += 1,
         |a| a.trial.colours[0] += 1,
         |a| a.work.swap(0, 1),
         |a| a.distant += 1,
+        |a| a.kind_cells[0] += 1,
+        |a| a.kind_pairs[3] += 1,
         |a| a.entries.rows[0] += 1,
         |a| a.entries.columns[0] += 1,
         |a| a.entries.values[0] = f64::from_bits(a.entries.values[0].to_bits() ^ 1),
@@ -127,5 +151,26 @@ fn a_change_of_any_list_is_noticed() {
         let mut changed = answer.clone();
         change(&mut changed);
         assert!(difference(&answer, &changed).is_some());
+    }
+}
+
+/// On meshes of one kind the corrections change nothing.
+#[test]
+fn corrections_on_one_kind() {
+    for seed in 0..60 {
+        let mut random = Random::new(seed);
+        let job = if seed % 2 == 0 {
+            let shape = meshes::SHAPES[random.below(meshes::SHAPES.len())];
+            meshes::job(&mut random, shape, false).0
+        } else {
+            let shape = quads::SHAPES[random.below(quads::SHAPES.len())];
+            quads::job(&mut random, shape, Kinds::Quads, false).0
+        };
+        let (numbers, _) = meshes::numbers(&mut random, &job);
+        let published = published::run::answer(&job, &numbers);
+        match (published, corrected::run::answer(&job, &numbers)) {
+            (Ok(x), Ok(y)) => assert_eq!(difference(&x, &y), None),
+            (x, y) => assert_eq!(x.unwrap_err(), y.unwrap_err()),
+        }
     }
 }

@@ -3,52 +3,49 @@ use Prim.Native.Nat.{ℕ, zero, suc, _+_, _*_, _<_}
 use native.Mathlib.Omega.{arith}
 use mathlib.Core.Path.{_≡_, refl, sym, ap, _∙_}
 use mathlib.Core.Bool.{Bool, true, false, not}
-use mathlib.Core.List.{List, _∷_}
-use lib.ListN.{length}
+use mathlib.Core.List.{List, _∷_, _++_}
+use lib.ListN.{length, drop, length-take, length-drop}
 use lib.Ieee.{Float}
 use borrow.Author.Tests.{eqb-true, not-true, not-false}
 use Rattle.lists.specs.Bool.{_and_}
 use Rattle.lists.specs.Refusals.{Check, check, refusal, refusal-first, refusal-rest, refusal-fails, refusal-passes}
+use Rattle.grid.specs.Cells.{part}
 use Rattle.numbers.specs.Ranges.{below-at}
 use Rattle.numbers.specs.Floats.{_!_}
+use Rattle.lent_numbers.specs.Lent.{Touching, Distant, touchingChecks, distantChecks}
 use Rattle.scatter.specs.Adding.{addLocal}
 use Rattle.scatter.specs.AddingFacts.{addLocal-ext}
 use Rattle.scatter.specs.Entries.{entryAt, AddFits}
-use Rattle.cell_pairs.specs.declared.WorkRecord.{WorkRecord}
 use Rattle.plans.specs.Planning.{unlessRefused}
-use Rattle.runs.specs.Runs.{Run, Plan, Reply, Answer, accepted, refused, reply, testDim, trialDim, recordOf, testDofsOf, trialDofsOf, matrixRight, stateChecks, callChecks, advance}
-use Rattle.runs.specs.CellDofs.{cell-fits, length-cell-is}
-use Rattle.boundary_assemblers.specs.RunFacts.{testDofsAt, trialDofsAt, state-refused, state-passed, Standing, standing, reply-refused}
-use Rattle.boundary_assemblers.specs.Forms.{stateChecked}
+use Rattle.runs.specs.Runs.{Run, Plan, Reply, Answer, accepted, refused, reply, testDofsOf, trialDofsOf, matrixRight, isTouching, isDistant, stateChecks, advance}
+use Rattle.boundary_assemblers.specs.declared.Cell.{Cell}
+use Rattle.boundary_assemblers.specs.declared.Pair.{Pair}
+use Rattle.boundary_assemblers.specs.RunFacts.{state-refused, state-passed, Dofs, Standing, standing, reply-refused}
+use Rattle.boundary_assemblers.specs.Forms.{dofsAt, pairAt, stateChecked}
 use Rattle.boundary_assemblers.specs.declared.Checked.the-variants.{Passed, Refused}
 
--- ---- the DOFs of the two cells
-
-module _ {r : Run} {ts us : List ℕ} {e : WorkRecord} {sized : Bool} (h : Standing r ts us e sized) where
-  pub test-long : length (testDofsAt r ts e) ≡ testDim r
-  test-long = length-cell-is ts (testDim r) _ (cell-fits (r .numbers .cells) _ _ _ (h .lengths .test) (h .known .test))
-
-  pub trial-long : length (trialDofsAt r us e) ≡ trialDim r
-  trial-long = length-cell-is us (trialDim r) _ (cell-fits (r .numbers .cells) _ _ _ (h .lengths .trial) (h .known .trial))
+-- the DOFs of a cell are as many as its dim
+pub dofs-long : {dofs : List ℕ} {size : ℕ} {c : Cell} → Dofs dofs size c → length (dofsAt dofs c) ≡ c .dim
+dofs-long {dofs} {size} {c} h = length-take (c .dim) (drop (c .start) dofs) ∙ omega (arith, length-drop (c .start) dofs, h .ends)
 
 -- the matrix has room for each entry
-pub add-fits : {r : Run} {ts us : List ℕ} {e : WorkRecord} {M : List Float} → Standing r ts us e (matrixRight r M)
-    → AddFits M (r .numbers .rows) (r .numbers .columns) (testDofsAt r ts e) (trialDofsAt r us e)
+pub add-fits : {r : Run} {ts us : List ℕ} {e : Pair} {M : List Float} → Standing r ts us e (matrixRight r M)
+    → AddFits M (r .numbers .rows) (r .numbers .columns) (dofsAt ts (e .test)) (dofsAt us (e .trial))
 unfolding matrixRight
 add-fits {r} {ts} {us} {e} {M} h =
     record {
       size = eqb-true _ _ (h .size);
-      test = below-at (testDofsAt r ts e) (r .numbers .rows) (h .test-below);
-      trial = below-at (trialDofsAt r us e) (r .numbers .columns) (h .trial-below);
-      few = omega (arith, test-long h, h .ranges .test);
-      few-trial = omega (arith, trial-long h, h .ranges .trial);
+      test = below-at (dofsAt ts (e .test)) (r .numbers .rows) (h .test .below);
+      trial = below-at (dofsAt us (e .trial)) (r .numbers .columns) (h .trial .below);
+      few = omega (arith, dofs-long (h .test), h .test .few);
+      few-trial = omega (arith, dofs-long (h .trial), h .trial .few);
     }
 
--- ---- the four ways a call that writes ends; P: the call's test of a pattern, run: the run is of the call's kind
+-- ---- the ways a call that writes ends; behind: its checks behind 21, 20, 22, of record p and its cells
 
-module _ {A : Type 0} (r : Run) (l : Plan) (sized run : Bool) (numbers : List Check) (P : ℕ → Bool) (M new : A) where
+module _ {A : Type 0} (r : Run) (l : Plan) (sized : Bool) (behind : Pair → List Check) (M new : A) where
   abbrev number : ℕ
-  number = refusal (callChecks r l sized (P (recordOf r l .pattern) and run) numbers)
+  number = refusal (stateChecks r l sized ++ behind (pairAt r l))
 
   -- the run and the answer that are handed back, and what is written
   abbrev Ends : Run → Answer → A → Type 0
@@ -63,43 +60,52 @@ module _ {A : Type 0} (r : Run) (l : Plan) (sized run : Bool) (numbers : List Ch
 
   -- 21, 20 or 22 turns the call down
   pub by-state : {v : ℕ} → Refused v ≡ stateChecked r l sized → Ends r (refused v) M
-  by-state {v} h = let s = state-refused r l sized h in refuses v (refusal-first (stateChecks r l sized) (check 23 (P (recordOf r l .pattern) and run) ∷ numbers) v (s .0) (s .1)) (s .1)
+  by-state {v} h = let s = state-refused r l sized h in refuses v (refusal-first (stateChecks r l sized) (behind (pairAt r l)) v (s .0) (s .1)) (s .1)
 
-  module _ {e : WorkRecord} (s : Passed e ≡ stateChecked r l sized) where
-    behind : number ≡ refusal (check 23 (P (e .pattern) and run) ∷ numbers)
-    behind = let c = state-passed r l sized s in rw (c .1, refusal-rest (stateChecks r l sized) (check 23 (P (recordOf r l .pattern) and run) ∷ numbers) (c .0) refl)
+  module _ {e : Pair} (s : Passed e ≡ stateChecked r l sized) (v : ℕ) (n : v ≡ refusal (behind e)) where
+    last : v ≡ number
+    last =
+        let c = state-passed r l sized s in
+        n ∙ ap (λ (p : Pair). refusal (behind p)) (c .1) ∙ sym (refusal-rest (stateChecks r l sized) (behind (pairAt r l)) (c .0) refl)
 
-    -- 23 does
-    pub by-kind : not (P (e .pattern) and run) ≡ true → Ends r (refused 23) M
-    by-kind h = refuses 23 (sym (behind ∙ refusal-fails 23 _ numbers (not-true _ h))) (λ z. omega arith)
+    -- a check behind them does
+    pub by-rest : (v ≡ 0 → ⊥) → Ends r (refused v) M
+    by-rest h = refuses v last h
 
-    module _ (k : not (P (e .pattern) and run) ≡ false) (v : ℕ) (n : v ≡ refusal numbers) where
-      last : v ≡ number
-      last = n ∙ sym (behind ∙ refusal-passes 23 _ numbers (not-false _ k))
+    -- none does
+    pub by-none : v ≡ 0 → {next : Run} {M′ : A} → next ≡ advance r → M′ ≡ new → Ends next accepted M′
+    by-none z a w = rw (sym last ∙ z, a, w) (refl, refl)
 
-      -- one of 9 to 11 does
-      pub by-numbers : (v ≡ 0 → ⊥) → Ends r (refused v) M
-      by-numbers h = refuses v last h
+-- an add checks 23, by the record and the run, then 9 to 11
+abbrev pub touchingBehind : Run → Touching → Pair → List Check
+touchingBehind r a e = check 23 (isTouching (e .item .pattern) and not (r .entries)) ∷ touchingChecks (r .numbers .integrand) (e .test .dim) (e .trial .dim) a
 
-      -- none does
-      pub by-none : v ≡ 0 → {next : Run} {M′ : A} → next ≡ advance r → M′ ≡ new → Ends next accepted M′
-      by-none z a w = rw (sym last ∙ z, a, w) (refl, refl)
+abbrev pub distantBehind : Run → Distant → Pair → List Check
+distantBehind r a e = check 23 (isDistant (e .item .pattern) and not (r .entries)) ∷ distantChecks (r .numbers .integrand) (e .test .dim) (e .trial .dim) a
+
+-- a check that fails, and one that passes
+pub check-fails : (n : ℕ) (b : Bool) (rest : List Check) → not b ≡ true → n ≡ refusal (check n b ∷ rest)
+check-fails n b rest h = sym (refusal-fails n b rest (not-true _ h))
+
+pub check-passes : (n : ℕ) (b : Bool) (rest : List Check) → not b ≡ false → {v : ℕ} → v ≡ refusal rest → v ≡ refusal (check n b ∷ rest)
+check-passes n b rest h e = e ∙ sym (refusal-passes n b rest (not-false _ h))
 
 -- the sum of the entries that the local matrix holds is that of the local entries
-pub sum-is : (r : Run) (l : Plan) (sized : Bool) {e : WorkRecord} → Passed e ≡ stateChecked r l sized
+pub sum-is : (r : Run) (l : Plan) (sized : Bool) {e : Pair} → Passed e ≡ stateChecked r l sized
     → (M : List Float) {M′ : List Float} (entries : List Float) (entry : ℕ → ℕ → Float)
-    → ((i j : ℕ) → i < testDim r → j < trialDim r → entries ! (i + testDim r * j) ≡ entry i j)
-    → M′ ≡ addLocal (entryAt entries (testDim r)) (r .numbers .rows) (testDofsAt r (l .testDofs) e) (trialDofsAt r (l .trialDofs) e) M
+    → ((i j : ℕ) → i < e .test .dim → j < e .trial .dim → entries ! (i + e .test .dim * j) ≡ entry i j)
+    → M′ ≡ addLocal (entryAt entries (e .test .dim)) (r .numbers .rows) (dofsAt (l .testDofs) (e .test)) (dofsAt (l .trialDofs) (e .trial)) M
     → M′ ≡ addLocal entry (r .numbers .rows) (testDofsOf r l) (trialDofsOf r l) M
+unfolding part
 sum-is r l sized {e} s M entries entry each w =
     let h = standing r l sized s in
-    rw (← state-passed r l sized s .1)
-    (w ∙ addLocal-ext (entryAt entries (testDim r)) entry (r .numbers .rows) (testDofsAt r (l .testDofs) e) (trialDofsAt r (l .trialDofs) e)
-    (λ i j hi hj. each i j (omega (arith, test-long h)) (omega (arith, trial-long h))) M)
+    w ∙ addLocal-ext (entryAt entries (e .test .dim)) entry (r .numbers .rows) (dofsAt (l .testDofs) (e .test)) (dofsAt (l .trialDofs) (e .trial))
+    (λ i j hi hj. each i j (omega (arith, dofs-long (h .test))) (omega (arith, dofs-long (h .trial)))) M
+    ∙ ap (λ (p : Pair). addLocal entry (r .numbers .rows) (dofsAt (l .testDofs) (p .test)) (dofsAt (l .trialDofs) (p .trial)) M) (state-passed r l sized s .1)
 
--- the local matrix is read by the test element's dim
-pub by-dim : {r : Run} {ts us : List ℕ} {e : WorkRecord} {sized : Bool} → Standing r ts us e sized → (M : List Float) {M′ : List Float} (entries : List Float)
-    → M′ ≡ addLocal (entryAt entries (length (testDofsAt r ts e))) (r .numbers .rows) (testDofsAt r ts e) (trialDofsAt r us e) M
-    → M′ ≡ addLocal (entryAt entries (testDim r)) (r .numbers .rows) (testDofsAt r ts e) (trialDofsAt r us e) M
+-- the local matrix is read by the test cell's dim
+pub by-dim : {r : Run} {ts us : List ℕ} {e : Pair} {sized : Bool} → Standing r ts us e sized → (M : List Float) {M′ : List Float} (entries : List Float)
+    → M′ ≡ addLocal (entryAt entries (length (dofsAt ts (e .test)))) (r .numbers .rows) (dofsAt ts (e .test)) (dofsAt us (e .trial)) M
+    → M′ ≡ addLocal (entryAt entries (e .test .dim)) (r .numbers .rows) (dofsAt ts (e .test)) (dofsAt us (e .trial)) M
 by-dim {r} {ts} {us} {e} h M entries w =
-    w ∙ ap (λ (n : ℕ). addLocal (entryAt entries n) (r .numbers .rows) (testDofsAt r ts e) (trialDofsAt r us e) M) (test-long h)
+    w ∙ ap (λ (n : ℕ). addLocal (entryAt entries n) (r .numbers .rows) (dofsAt ts (e .test)) (dofsAt us (e .trial)) M) (dofs-long (h .test))

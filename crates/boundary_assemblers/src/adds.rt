@@ -1,6 +1,7 @@
 // The adds: the local matrix of the pair at the run's position goes into the matrix.
 use crate::Added;
 use crate::Checked;
+use crate::Pair;
 use crate::Run;
 use crate::calls::cell_dofs;
 use cell_pair_assemblers::LocalMatrix;
@@ -8,7 +9,6 @@ use cell_pair_assemblers::distant_matrix;
 use cell_pair_assemblers::touching_matrix;
 use cell_pairs::DISTANT;
 use cell_pairs::NO_PATTERN;
-use cell_pairs::WorkRecord;
 use lent_numbers::distant_refusal;
 use lent_numbers::touching_refusal;
 use numbers::wide;
@@ -18,9 +18,9 @@ ghost use Prim.Native.Nat.{_<_};
 ghost use Rattle.lent_numbers.specs.Lent.{touching, distant};
 ghost use Rattle.scatter.specs.Adding.{addLocal};
 ghost use Rattle.scatter.specs.Entries.{entryAt};
-ghost use Rattle.runs.specs.Runs.{testDim, matrixRight, advance, addTouching, touchingMatrix, addDistant, distantMatrix, planOf};
-ghost use Rattle.boundary_assemblers.specs.Forms.{runOf, addedOf};
-ghost use Rattle.boundary_assemblers.specs.RunFacts.{mostPairs, testDofsAt, trialDofsAt, Standing};
+ghost use Rattle.runs.specs.Runs.{matrixRight, advance, addTouching, touchingMatrix, addDistant, distantMatrix, planOf};
+ghost use Rattle.boundary_assemblers.specs.Forms.{runOf, addedOf, dofsAt};
+ghost use Rattle.boundary_assemblers.specs.RunFacts.{mostPairs, Standing};
 
 impl Run {
     // 21: the matrix has its length.
@@ -44,24 +44,22 @@ impl Run {
         }
     }
 
-    // Adds a local matrix at the DOFs of the two cells of a record.
+    // Adds a local matrix at the DOFs of the two cells of record p.
     fn add_matrix(
         self,
         test_dofs: &[u32],
         trial_dofs: &[u32],
-        e: WorkRecord,
+        e: Pair,
         local: LocalMatrix,
         matrix: &mut [f64],
     )
         requires { ⌜ Standing (runOf self) (now «test_dofs») (now «trial_dofs») e (matrixRight (runOf self) (now matrix)) ⌝ }
-        ensures { λ _. ⌜ now (matrix .exit) ≡ addLocal (entryAt (local .entries) (testDim (runOf self))) (self .numbers .rows)
-            (testDofsAt (runOf self) (now («test_dofs» .entry)) e) (trialDofsAt (runOf self) (now («trial_dofs» .entry)) e) (now (matrix .entry)) ⌝ }
+        ensures { λ _. ⌜ now (matrix .exit) ≡ addLocal (entryAt (local .entries) (e .test .dim)) (self .numbers .rows)
+            (dofsAt (now («test_dofs» .entry)) (e .test)) (dofsAt (now («trial_dofs» .entry)) (e .trial)) (now (matrix .entry)) ⌝ }
     {
         let n = self.numbers;
-        let test = n.test;
-        let trial = n.trial;
-        let rows = cell_dofs(test_dofs, test.dim(), wide(e.test));
-        let columns = cell_dofs(trial_dofs, trial.dim(), wide(e.trial));
+        let rows = cell_dofs(test_dofs, e.test);
+        let columns = cell_dofs(trial_dofs, e.trial);
         let entries = local.entries;
         add_local(
             matrix,
@@ -76,6 +74,7 @@ impl Run {
     // Adds the local matrix of a touching pair. Checks 21, 20, 22, 23, then 9 to 11.
     pub fn add_touching(
         self,
+        kinds: &[u8],
         test_dofs: &[u32],
         trial_dofs: &[u32],
         work: &[u32],
@@ -88,24 +87,25 @@ impl Run {
         trial_geometry: &[f64],
         matrix: &mut [f64],
     ) -> Added
-        ensures { λ r. ⌜ addedOf r ≡ addTouching (runOf self) (planOf (now («test_dofs» .entry)) (now («trial_dofs» .entry)) (now (work .entry))) (now (matrix .entry))
+        ensures { λ r. ⌜ addedOf r ≡ addTouching (runOf self) (planOf (now (kinds .entry)) (now («test_dofs» .entry)) (now («trial_dofs» .entry)) (now (work .entry))) (now (matrix .entry))
             (touching points (now (weights .entry)) (now («test_table» .entry)) (now («trial_table» .entry)) (now (kernel .entry)) (now («test_geometry» .entry)) (now («trial_geometry» .entry))) ⌝ }
-        ensures { λ _. ⌜ now (matrix .exit) ≡ touchingMatrix (runOf self) (planOf (now («test_dofs» .entry)) (now («trial_dofs» .entry)) (now (work .entry))) (now (matrix .entry))
+        ensures { λ _. ⌜ now (matrix .exit) ≡ touchingMatrix (runOf self) (planOf (now (kinds .entry)) (now («test_dofs» .entry)) (now («trial_dofs» .entry)) (now (work .entry))) (now (matrix .entry))
             (touching points (now (weights .entry)) (now («test_table» .entry)) (now («trial_table» .entry)) (now (kernel .entry)) (now («test_geometry» .entry)) (now («trial_geometry» .entry))) ⌝ }
     {
         let sized = self.matrix_right(matrix);
-        match self.state_checked(test_dofs, trial_dofs, work, sized) {
+        match self.state_checked(kinds, test_dofs, trial_dofs, work, sized) {
             Checked::Refused(v) => Added::Refused(self, v),
             Checked::Passed(e) => {
-                if !((e.pattern < NO_PATTERN) & !self.entries) {
+                let item = e.item;
+                if !((item.pattern < NO_PATTERN) & !self.entries) {
                     return Added::Refused(self, 23);
                 }
                 let n = self.numbers;
                 let f = n.integrand;
-                let test = n.test;
-                let trial = n.trial;
-                let test_dim = test.dim();
-                let trial_dim = trial.dim();
+                let test = e.test;
+                let trial = e.trial;
+                let test_dim = test.dim;
+                let trial_dim = trial.dim;
                 let v = touching_refusal(
                     f,
                     test_dim,
@@ -142,6 +142,7 @@ impl Run {
     // Adds the local matrix of a distant pair. Checks 21, 20, 22, 23, then 9 to 11.
     pub fn add_distant(
         self,
+        kinds: &[u8],
         test_dofs: &[u32],
         trial_dofs: &[u32],
         work: &[u32],
@@ -156,24 +157,25 @@ impl Run {
         trial_geometry: &[f64],
         matrix: &mut [f64],
     ) -> Added
-        ensures { λ r. ⌜ addedOf r ≡ addDistant (runOf self) (planOf (now («test_dofs» .entry)) (now («trial_dofs» .entry)) (now (work .entry))) (now (matrix .entry))
+        ensures { λ r. ⌜ addedOf r ≡ addDistant (runOf self) (planOf (now (kinds .entry)) (now («test_dofs» .entry)) (now («trial_dofs» .entry)) (now (work .entry))) (now (matrix .entry))
             (distant «test_points» «trial_points» (now («test_weights» .entry)) (now («trial_weights» .entry)) (now («test_table» .entry)) (now («trial_table» .entry)) (now (kernel .entry)) (now («test_geometry» .entry)) (now («trial_geometry» .entry))) ⌝ }
-        ensures { λ _. ⌜ now (matrix .exit) ≡ distantMatrix (runOf self) (planOf (now («test_dofs» .entry)) (now («trial_dofs» .entry)) (now (work .entry))) (now (matrix .entry))
+        ensures { λ _. ⌜ now (matrix .exit) ≡ distantMatrix (runOf self) (planOf (now (kinds .entry)) (now («test_dofs» .entry)) (now («trial_dofs» .entry)) (now (work .entry))) (now (matrix .entry))
             (distant «test_points» «trial_points» (now («test_weights» .entry)) (now («trial_weights» .entry)) (now («test_table» .entry)) (now («trial_table» .entry)) (now (kernel .entry)) (now («test_geometry» .entry)) (now («trial_geometry» .entry))) ⌝ }
     {
         let sized = self.matrix_right(matrix);
-        match self.state_checked(test_dofs, trial_dofs, work, sized) {
+        match self.state_checked(kinds, test_dofs, trial_dofs, work, sized) {
             Checked::Refused(v) => Added::Refused(self, v),
             Checked::Passed(e) => {
-                if !((e.pattern == DISTANT) & !self.entries) {
+                let item = e.item;
+                if !((item.pattern == DISTANT) & !self.entries) {
                     return Added::Refused(self, 23);
                 }
                 let n = self.numbers;
                 let f = n.integrand;
-                let test = n.test;
-                let trial = n.trial;
-                let test_dim = test.dim();
-                let trial_dim = trial.dim();
+                let test = e.test;
+                let trial = e.trial;
+                let test_dim = test.dim;
+                let trial_dim = trial.dim;
                 let v = distant_refusal(
                     f,
                     test_dim,

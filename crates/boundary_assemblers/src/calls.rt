@@ -1,35 +1,52 @@
 // The checks that every call of a run makes, and look.
+use crate::Cell;
 use crate::Checked;
 use crate::Looked;
+use crate::Pair;
 use crate::Run;
 use cell_pairs::DISTANT;
 use cell_pairs::NO_PATTERN;
 use cell_pairs::WIDTH;
 use cell_pairs::WorkRecord;
 use cell_pairs::record_at;
+use function::Elements;
 use function::dims_right;
 use grid::MOST_CELLS;
 use grid::MOST_EDGES;
 use grid::MOST_VERTICES;
+use grid::count_kind;
+use grid::kinds_match;
 use integrands::integrand_right;
 use numbers::all_below;
 use numbers::wide;
 use plans::PlanNumbers;
 ghost use mathlib.Core.Path.{_≡_};
 ghost use mathlib.Core.Bool.{true};
-ghost use Prim.Native.Nat.{_+_, _*_, _≤_};
+ghost use Prim.Native.Nat.{_+_, _*_, _≤_, _<_};
 ghost use lib.ListN.{length};
-ghost use Rattle.runs.specs.Runs.{begin, beginEntries, cellDofs, rangesRight, placesRight, planRight, look, planOf};
-ghost use Rattle.boundary_assemblers.specs.Forms.{runOf, lookedOf, stateChecked};
-ghost use Rattle.boundary_assemblers.specs.RunFacts.{Lengths, rightAt};
+ghost use Rattle.lists.specs.Bool.{_and_};
+ghost use Rattle.grid.specs.Mesh.{mostCells};
+ghost use Rattle.grid.specs.KindsFacts.{kindsTo};
+ghost use Rattle.function.specs.Elements.{cellDim};
+ghost use Rattle.runs.specs.Runs.{begin, beginEntries, rangesRight, countsRight, kindsFit, planRight, recordKnown, look, planOf};
+ghost use Rattle.boundary_assemblers.specs.Forms.{runOf, lookedOf, stateChecked, dofsAt, cellAt};
+ghost use Rattle.boundary_assemblers.specs.RunFacts.{Matched, Inside, dofsBelow};
 
-// The DOFs of a cell.
-pub(crate) fn cell_dofs(dofs: &[u32], dim: usize, cell: usize) -> &[u32]
-    requires { ⌜ dim * cell + dim ≤ length (now dofs) ⌝ }
-    ensures { λ r. ⌜ now r ≡ cellDofs (now (dofs .entry)) dim cell ⌝ }
+// How many local DOFs so many triangles and quads have together. Of elements that hold any u32 the sum fits.
+fn dofs_on(triangles: u32, quads: u32, elements: Elements) -> usize
+    requires { ⌜ (triangles ≤ mostCells) × (quads ≤ mostCells) ⌝ }
+    ensures { λ r. ⌜ r ≡ triangles * cellDim elements 3 + quads * cellDim elements 4 ⌝ }
 {
-    let start = dim * cell;
-    let end = start + dim;
+    wide(triangles) * elements.dim(3) + wide(quads) * elements.dim(4)
+}
+
+// The DOFs of a cell in the DOF list of its side.
+pub(crate) fn cell_dofs(dofs: &[u32], cell: Cell) -> &[u32]
+    requires { ⌜ cell .start + cell .dim ≤ length (now dofs) ⌝ }
+    ensures { λ r. ⌜ now r ≡ dofsAt (now (dofs .entry)) cell ⌝ }
+{
+    let start = cell.start;
+    let end = start + cell.dim;
     &dofs[start..end]
 }
 
@@ -67,76 +84,119 @@ impl Run {
         ((1 <= n.cells) & (n.cells <= MOST_CELLS as u32))
             & ((3 <= n.vertices) & (n.vertices <= MOST_VERTICES as u32))
             & ((3 <= n.edges) & (n.edges <= MOST_EDGES as u32))
-            & dims_right(test, trial)
+            & dims_right(n.triangles, n.quads, test, trial)
             & integrand_right(f)
     }
 
-    // 21: p, N, rows and columns are no more than the ranges give.
-    pub(crate) fn places_right(self) -> bool
-        requires { ⌜ rangesRight (runOf self) ≡ true ⌝ }
-        ensures { λ r. ⌜ r ≡ placesRight (runOf self) ⌝ }
+    // 21: the pairs per two kinds add up to S, S and N to all pairs, and p is no more than these. The sums are made as usize, so that they fit of any u32.
+    pub(crate) fn counts_right(self) -> bool
+        ensures { λ r. ⌜ r ≡ countsRight (runOf self) ⌝ }
     {
         let n = self.numbers;
-        let test = n.test;
-        let trial = n.trial;
+        let k = n.pairs;
         let cells = wide(n.cells);
         let pairs = cells * cells;
-        (wide(self.position) <= pairs)
-            & (wide(n.distant) <= pairs)
+        let touching = wide(n.touching);
+        (wide(k.triangle_triangle)
+            + wide(k.triangle_quad)
+            + wide(k.quad_triangle)
+            + wide(k.quad_quad)
+            == touching)
+            & (touching + wide(n.distant) == pairs)
+            & (wide(self.position) <= pairs)
             & (!self.entries | (n.distant <= self.position))
-            & (wide(n.rows) <= cells * test.dim())
-            & (wide(n.columns) <= cells * trial.dim())
     }
 
-    // 21: the plan has its length.
-    fn plan_right(self, test_dofs: &[u32], trial_dofs: &[u32], work: &[u32]) -> bool
+    // 21: the kind list is that of the cells, and the plan has its length.
+    fn plan_right(self, kinds: &[u8], test_dofs: &[u32], trial_dofs: &[u32], work: &[u32]) -> bool
         requires { ⌜ rangesRight (runOf self) ≡ true ⌝ }
-        ensures { λ r. ⌜ r ≡ planRight (runOf self) (planOf (now («test_dofs» .entry)) (now («trial_dofs» .entry)) (now (work .entry))) ⌝ }
+        ensures { λ r. ⌜ r ≡ (kindsFit (runOf self) (planOf (now (kinds .entry)) (now («test_dofs» .entry)) (now («trial_dofs» .entry)) (now (work .entry)))
+            and planRight (runOf self) (planOf (now (kinds .entry)) (now («test_dofs» .entry)) (now («trial_dofs» .entry)) (now (work .entry)))) ⌝ }
     {
         let n = self.numbers;
-        let test = n.test;
-        let trial = n.trial;
-        let cells = wide(n.cells);
-        (test_dofs.len() == cells * test.dim())
-            & (trial_dofs.len() == cells * trial.dim())
-            & (work.len() == WIDTH * (cells * cells))
-    }
-
-    // 22: a record, and the DOFs of its two cells.
-    fn record_right(self, test_dofs: &[u32], trial_dofs: &[u32], e: WorkRecord) -> bool
-        requires { ⌜ Lengths (runOf self) (now «test_dofs») (now «trial_dofs») ⌝ }
-        ensures { λ r. ⌜ r ≡ rightAt (runOf self) (now («test_dofs» .entry)) (now («trial_dofs» .entry)) e ⌝ }
-    {
-        let n = self.numbers;
-        if !(((e.pattern < NO_PATTERN) | (e.pattern == DISTANT))
-            & (e.test < n.cells)
-            & (e.trial < n.cells)) {
+        if !kinds_match(n.cells, n.triangles, n.quads, kinds) {
             return false;
         }
         let test = n.test;
         let trial = n.trial;
-        let rows = cell_dofs(test_dofs, test.dim(), wide(e.test));
-        let columns = cell_dofs(trial_dofs, trial.dim(), wide(e.trial));
+        let test_places = dofs_on(n.triangles, n.quads, test);
+        let trial_places = dofs_on(n.triangles, n.quads, trial);
+        let cells = wide(n.cells);
+        (wide(n.rows) <= test_places)
+            & (wide(n.columns) <= trial_places)
+            & (test_dofs.len() == test_places)
+            & (trial_dofs.len() == trial_places)
+            & (work.len() == WIDTH * (cells * cells))
+    }
+
+    // How many of the cells before a cell are quads. Cells of one kind are not counted.
+    fn quads_before(self, kinds: &[u8], cell: u32) -> u32
+        requires { ⌜ Matched (self .numbers) (now kinds) × (cell < self .numbers .cells) ⌝ }
+        ensures { λ r. ⌜ r ≡ kindsTo (now (kinds .entry)) 4 cell ⌝ }
+    {
+        let n = self.numbers;
+        if n.quads == 0 {
+            return 0;
+        }
+        if n.triangles == 0 {
+            return cell;
+        }
+        count_kind(&kinds[..wide(cell)], 4)
+    }
+
+    // A cell of one side, which has these elements.
+    fn cell_at(self, kinds: &[u8], elements: Elements, cell: u32) -> Cell
+        requires { ⌜ Matched (self .numbers) (now kinds) × (cell < self .numbers .cells) ⌝ }
+        ensures { λ r. ⌜ r ≡ cellAt (now (kinds .entry)) elements cell ⌝ }
+    {
+        let quads = self.quads_before(kinds, cell);
+        let kind = kinds[wide(cell)];
+        Cell {
+            kind: kind,
+            start: dofs_on(cell - quads, quads, elements),
+            dim: elements.dim(kind),
+        }
+    }
+
+    // 22: a record has a pattern of the list, and cells below C.
+    fn record_known(self, e: WorkRecord) -> bool
+        ensures { λ r. ⌜ r ≡ recordKnown (runOf self) e ⌝ }
+    {
+        let n = self.numbers;
+        ((e.pattern < NO_PATTERN) | (e.pattern == DISTANT))
+            & (e.test < n.cells)
+            & (e.trial < n.cells)
+    }
+
+    // 22: each DOF of the two cells is below its size.
+    fn dofs_right(self, test_dofs: &[u32], trial_dofs: &[u32], e: Pair) -> bool
+        requires { ⌜ Inside (now «test_dofs») (e .test) × Inside (now «trial_dofs») (e .trial) ⌝ }
+        ensures { λ r. ⌜ r ≡ dofsBelow (runOf self) (now («test_dofs» .entry)) (now («trial_dofs» .entry)) e ⌝ }
+    {
+        let n = self.numbers;
+        let rows = cell_dofs(test_dofs, e.test);
+        let columns = cell_dofs(trial_dofs, e.trial);
         all_below(rows, n.rows) & all_below(columns, n.columns)
     }
 
-    // 21, 20, 22, which every call checks, then record p. `sized`: what is lent beside the plan has its length.
+    // 21, 20, 22, which every call checks, then record p and its cells. `sized`: what is lent beside the plan has its length.
     pub(crate) fn state_checked(
         self,
+        kinds: &[u8],
         test_dofs: &[u32],
         trial_dofs: &[u32],
         work: &[u32],
         sized: bool,
     ) -> Checked
-        ensures { λ r. ⌜ r ≡ stateChecked (runOf self) (planOf (now («test_dofs» .entry)) (now («trial_dofs» .entry)) (now (work .entry))) sized ⌝ }
+        ensures { λ r. ⌜ r ≡ stateChecked (runOf self) (planOf (now (kinds .entry)) (now («test_dofs» .entry)) (now («trial_dofs» .entry)) (now (work .entry))) sized ⌝ }
     {
         if !self.ranges_right() {
             return Checked::Refused(21);
         }
-        if !self.places_right() {
+        if !self.counts_right() {
             return Checked::Refused(21);
         }
-        if !self.plan_right(test_dofs, trial_dofs, work) {
+        if !self.plan_right(kinds, test_dofs, trial_dofs, work) {
             return Checked::Refused(21);
         }
         if !sized {
@@ -148,20 +208,31 @@ impl Run {
         if p == cells * cells {
             return Checked::Refused(20);
         }
-        let e = record_at(work, p);
-        if !self.record_right(test_dofs, trial_dofs, e) {
+        let record = record_at(work, p);
+        if !self.record_known(record) {
+            return Checked::Refused(22);
+        }
+        let e = Pair {
+            item: record,
+            test: self.cell_at(kinds, n.test, record.test),
+            trial: self.cell_at(kinds, n.trial, record.trial),
+        };
+        if !self.dofs_right(test_dofs, trial_dofs, e) {
             return Checked::Refused(22);
         }
         Checked::Passed(e)
     }
 
     // Answers record p.
-    pub fn look(self, test_dofs: &[u32], trial_dofs: &[u32], work: &[u32]) -> Looked
-        ensures { λ r. ⌜ lookedOf r ≡ look (runOf self) (planOf (now («test_dofs» .entry)) (now («trial_dofs» .entry)) (now (work .entry))) ⌝ }
+    pub fn look(self, kinds: &[u8], test_dofs: &[u32], trial_dofs: &[u32], work: &[u32]) -> Looked
+        ensures { λ r. ⌜ lookedOf r ≡ look (runOf self) (planOf (now (kinds .entry)) (now («test_dofs» .entry)) (now («trial_dofs» .entry)) (now (work .entry))) ⌝ }
     {
-        match self.state_checked(test_dofs, trial_dofs, work, true) {
+        match self.state_checked(kinds, test_dofs, trial_dofs, work, true) {
             Checked::Refused(v) => Looked::Refused(self, v),
-            Checked::Passed(e) => Looked::Found(self, e),
+            Checked::Passed(e) => {
+                let item = e.item;
+                Looked::Found(self, item)
+            }
         }
     }
 }

@@ -25,8 +25,22 @@ pub enum Added {
     Refused(Run, u32),
 }
 
-// What the checks that every call makes hand back: record p where all pass, else the refusal.
+// A cell of record p: its kind, and where its DOFs begin in the DOF list of its side and how many they are.
+pub(crate) struct Cell {
+    pub kind: u8,
+    pub start: usize,
+    pub dim: usize,
+}
+
+// Record p, and its two cells.
+pub(crate) struct Pair {
+    pub item: WorkRecord,
+    pub test: Cell,
+    pub trial: Cell,
+}
+
+// What the checks that every call makes hand back: record p and its cells where all pass, else the refusal.
 pub(crate) enum Checked {
-    Passed(WorkRecord),
+    Passed(Pair),
     Refused(u32),
 }

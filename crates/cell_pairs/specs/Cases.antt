@@ -11,7 +11,7 @@ use Rattle.lists.specs.Range.{range}
 use Rattle.lists.specs.Total.{count}
 use Rattle.grid.specs.Cells.{has, endsOf}
 use Rattle.grid.specs.Mesh.{Mesh, triangles, kind, corners}
-use Rattle.cell_pairs.specs.Patterns.{Match, _↔_, edgeOf}
+use Rattle.cell_pairs.specs.Matches.{Match, _↔_, edgeOf}
 
 -- a pattern's number, and the vertices that it shares
 pub record Case : Type 0 where

@@ -17,7 +17,7 @@ use Rattle.grid.specs.Cells.{own, has, distinct, sameTwo}
 use Rattle.grid.specs.CellsFacts.{length-part}
 use Rattle.grid.specs.Mesh.{Mesh, corners, vertexPlaces, verticesRight, meshChecks}
 use Rattle.grid.specs.Examples.{opened-grid}
-use Rattle.cell_pairs.specs.Patterns.{Match, _↔_, sameMatches, matches, edgeOf, patternOf}
+use Rattle.cell_pairs.specs.Matches.{Match, _↔_, sameMatches, matches, edgeOf, patternOf}
 use Rattle.cell_pairs.specs.Cases.{caseAt, canBe, ofTriangles, Triangle, sharedVertices, twoCells}
 use Rattle.cell_pairs.specs.SharedVertices.{vertex-below}
 use Rattle.cell_pairs.specs.MatchesFacts.{same-matches, Lone, lone, Places, places-of, matchesAt, matchesBy, length-at, matches-at, has-three, has-is-place}
@@ -169,7 +169,7 @@ module _ (m : Mesh) (places : vertexPlaces m ≡ true) (e : verticesRight m ≡ 
   unfolding verticesRight
   apart-at k h = all-at _ _ (every-at _ e 2) k h
 
-  three-at : (k : ℕ) → Triangle m k → length (corners m k) ≡ 3
+  pub three-at : (k : ℕ) → Triangle m k → length (corners m k) ≡ 3
   unfolding corners vertexPlaces
   three-at k h = length-part own (m .kinds) (m .cellVertices) (m .cells) k (eqb-true _ _ places) (h .cell) ∙ h .kind
 

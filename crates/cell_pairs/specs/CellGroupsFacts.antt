@@ -16,9 +16,8 @@ use Rattle.grid.specs.Cells.{has}
 use Rattle.grid.specs.Mesh.{Mesh, triangles, kind, kindsPresent, corners}
 use Rattle.grid.specs.KindsFacts.{Kinded, kind-present, kind-once}
 use Rattle.function.specs.Colours.{colourCount}
-use Rattle.cell_pairs.specs.Records.{patternCount}
 use Rattle.cell_pairs.specs.Patterns.{pairPattern, pairVertex}
-use Rattle.cell_pairs.specs.WorkList.{coloured, touchingPair, touchingPart}
+use Rattle.cell_pairs.specs.WorkList.{coloured, touchingPair, touchingPattern}
 use Rattle.cell_pairs.specs.SharedVertices.{smallest-test, smallest-trial}
 use Rattle.cell_pairs.specs.CellGroups.{atVertex}
 
@@ -94,11 +93,8 @@ module _ (m : Mesh) (p v : ℕ) (l : v < m .vertices) where
       (flatMap-ext _ _ (λ i. flatMap-filter (λ j. touchingPair m p v i j) test (λ j e. not-trial i j e) R) (filter test R)
       ∙ flatMap-filter (λ i. flatMap (λ j. touchingPair m p v i j) R) test (λ i e. flatMap-nil _ (λ j. not-test i j e) R) R)
 
--- the touching part, with the cells of each vertex in place of all cells
-pub touching-by-vertex : (m : Mesh)
-    → touchingPart m
-    ≡ flatMap
-    (λ p. flatMap (λ v. flatMap (λ i. flatMap (λ j. touchingPair m p v i j) (atVertex m v)) (atVertex m v)) (range (m .vertices)))
-    (range patternCount)
-unfolding touchingPart
-touching-by-vertex m = flatMap-ext _ _ (λ p. flatMap-below _ _ (m .vertices) (λ v l. vertex-all m p v l)) (range patternCount)
+-- the touching pairs of pattern p, with the cells of each vertex in place of all cells
+pub pattern-by-vertex : (m : Mesh) (p : ℕ)
+    → touchingPattern m p ≡ flatMap (λ v. flatMap (λ i. flatMap (λ j. touchingPair m p v i j) (atVertex m v)) (atVertex m v)) (range (m .vertices))
+unfolding touchingPattern
+pattern-by-vertex m p = flatMap-below _ _ (m .vertices) (λ v l. vertex-all m p v l)

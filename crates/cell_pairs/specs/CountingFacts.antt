@@ -17,7 +17,7 @@ use Rattle.function.specs.Colours.{colourCount}
 use Rattle.cell_pairs.specs.declared.WorkRecord.{WorkRecord}
 use Rattle.cell_pairs.specs.Records.{rec, patternCount, distantPattern}
 use Rattle.cell_pairs.specs.Patterns.{touch, pairPattern, pairVertex}
-use Rattle.cell_pairs.specs.WorkList.{coloured, batches, distantPair, distantBatch, distantColours, distantKinds, distantPart, touchingPair, touchingPart}
+use Rattle.cell_pairs.specs.WorkList.{coloured, batches, distantPair, distantBatch, distantColours, distantKinds, distantPart, touchingPair, touchingPattern, touchingPart}
 use Rattle.cell_pairs.specs.SharedVertices.{smallest-found, smallest-none}
 use Rattle.cell_pairs.specs.CellGroupsFacts.{total-coloured}
 
@@ -110,10 +110,10 @@ module _ (w : WorkRecord → ℕ) (m : Mesh) (below : (i p : ℕ) → p < length
           ∙ total-zero (range patternCount)
           ∙ sym (ap (λ (b : Bool). gate b (w (rec (pairPattern m i j) i j))) e)
 
-  -- each vertex is below V, and each pattern is of the list: the touching part goes once through all pairs that share a vertex
+  -- each vertex is below V, and each pattern is of the table: the touching part goes once through all pairs that share a vertex
   pub touching-total : total w (touchingPart m)
       ≡ total (λ i. total (λ j. gate (touch m i j) (w (rec (pairPattern m i j) i j))) (range (m .cells))) (range (m .cells))
-  unfolding touchingPart
+  unfolding touchingPart touchingPattern
   touching-total =
       let R = range (m .cells) in
       let n : ℕ → ℕ → ℕ → ℕ → ℕ = λ p v i j. total w (touchingPair m p v i j) in

@@ -14,7 +14,7 @@ use Rattle.lists.specs.Range.{range, when}
 use Rattle.lists.specs.Total.{gate}
 use Rattle.grid.specs.Cells.{has, distinct}
 use Rattle.grid.specs.Facts.{vertices-differ}
-use Rattle.cell_pairs.specs.Patterns.{Match, _↔_, sameMatches, matches}
+use Rattle.cell_pairs.specs.Matches.{Match, _↔_, sameMatches, matches}
 
 -- ---- the test that two lists are the same
 

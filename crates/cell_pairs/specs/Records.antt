@@ -6,7 +6,7 @@ use Rattle.cell_pairs.specs.declared.WorkRecord.{WorkRecord}
 
 -- how many patterns touching pairs have: they are the numbers below it
 abbrev pub patternCount : ℕ
-patternCount = 28
+patternCount = 149
 
 -- the pattern of a distant pair
 abbrev pub distantPattern : ℕ

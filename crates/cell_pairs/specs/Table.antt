@@ -1,7 +1,7 @@
 -- The touching patterns of triangles and quads (change 3), written out: one table of 149, by the kinds of the test and of the trial cell and by the vertices
 -- that they share; the number of a pattern; and the words in which the theorem on the table (`TableProperty`) speaks. `i ↔ j` is a vertex at test place i and
 -- trial place j, and trial places rise. Assumes nothing.
-use Prim.Native.Nat.{ℕ, _+_, _-_, _*_}
+use Prim.Native.Nat.{ℕ, suc, _+_, _-_, _*_}
 use mathlib.Core.Bool.{Bool, true, false, cond}
 use mathlib.Core.List.{List, [], _∷_, _++_, flatMap, map}
 use lib.ListN.{getD, take, drop}
@@ -10,7 +10,8 @@ use Rattle.lists.specs.Bool.{_and_}
 use Rattle.lists.specs.Bounded.{least}
 use Rattle.lists.specs.Range.{range, when}
 use Rattle.grid.specs.Cells.{edgesOf, endsOf, sameTwo}
-use Rattle.cell_pairs.specs.Patterns.{Match, _↔_, sameMatches}
+use Rattle.cell_pairs.specs.Records.{patternCount}
+use Rattle.cell_pairs.specs.Matches.{Match, _↔_, sameMatches}
 use Rattle.cell_pairs.specs.Cases.{canBe}
 
 -- the kind of the test cell, the kind of the trial cell (3 a triangle, 4 a quad), and the vertices that they share
@@ -196,7 +197,7 @@ table = triangleTriangle ++ triangleQuad ++ quadTriangle ++ quadQuad
 
 -- how many there are; as a number it is that of no pattern
 abbrev pub tableCount : ℕ
-tableCount = 149
+tableCount = patternCount
 
 -- the pattern at place k of the table; past the last there is none
 abbrev pub patternAt : ℕ → Pattern
@@ -212,9 +213,14 @@ fromTo a b = take (b + 1 - a) (drop a table)
 unfoldable pub same : Pattern → Pattern → Bool
 same x y = eqb (x .test) (y .test) and eqb (x .trial) (y .trial) and sameMatches (x .shared) (y .shared)
 
+-- its place in a list of patterns; where it has none, as many as there are
+unfoldable pub placeOf : Pattern → List Pattern → ℕ
+placeOf x [] = 0
+placeOf x (y ∷ ys) = cond (same y x) 0 (let after = placeOf x ys in suc after)
+
 -- its place in the table; 149 where it has none
 unfoldable pub numberOf : Pattern → ℕ
-numberOf x = least tableCount (λ k. same (patternAt k) x)
+numberOf x = placeOf x table
 
 -- ---- the blocks, made from the local vertices and edges
 

@@ -1,23 +1,22 @@
 -- Laws of the table of patterns. What holds of each pattern is one test that is computed over the whole table, and a law that reads it. Assumes nothing.
-use Prim.Native.Nat.{ℕ, _<_}
+use Prim.Native.Nat.{ℕ, suc, _<_}
 use native.Mathlib.Omega.{arith}
 use mathlib.Core.Path.{_≡_, refl, sym, ap, subst, _∙_}
 use mathlib.Core.Bool.{Bool, true, false, cond}
 use mathlib.Core.Logic.{⊎-elim}
 use mathlib.Core.List.{List, [], _∷_, _++_, flatMap}
-use lib.ListN.{length}
+use lib.ListN.{length, getD}
 use lib.Dec.{ltb, eqb}
 use borrow.Author.Tests.{ltb-true, eqb-true, eq-eqb, lt-ltb}
 use Rattle.lists.specs.Bool.{_and_, _or_, true≢false, cases, and-left, and-right, and-both, every-at}
 use Rattle.lists.specs.Bounded.{all, all-at, least, least-is, least-none, least-holds}
 use Rattle.lists.specs.Range.{range}
 use Rattle.grid.specs.Cells.{sameTwo}
-use Rattle.cell_pairs.specs.Records.{patternCount}
-use Rattle.cell_pairs.specs.Patterns.{Match, _↔_, sameMatches, edgeOf, patternOf}
+use Rattle.cell_pairs.specs.Matches.{Match, _↔_, sameMatches, edgeOf, triangleCount, patternOf}
 use Rattle.cell_pairs.specs.MatchesFacts.{joined, same-matches, same-matches-refl}
 use Rattle.cell_pairs.specs.Cases.{caseAt, canBe}
 use Rattle.cell_pairs.specs.CasesFacts.{can-be-case}
-use Rattle.cell_pairs.specs.Table.{Pattern, pattern, table, tableCount, patternAt, fromTo, same, numberOf, block, edgeJoining, inBlock, formulaNumber, ofTwoTriangles}
+use Rattle.cell_pairs.specs.Table.{Pattern, pattern, table, tableCount, patternAt, fromTo, same, placeOf, numberOf, block, edgeJoining, inBlock, formulaNumber, ofTwoTriangles}
 
 -- ---- the test `same` is equality
 
@@ -70,13 +69,13 @@ table-once k l hk hl e = sym (table-formula k hk) ∙ ap formulaNumber e ∙ tab
 abbrev fromTriangles : ℕ → Bool
 fromTriangles k = eqb (patternAt k .test) 3 and eqb (patternAt k .trial) 3 and eqb (patternOf (patternAt k .shared)) k
 
-triangles-computed : all patternCount fromTriangles ≡ true
+triangles-computed : all triangleCount fromTriangles ≡ true
 unfolding all _and_ _or_ least sameTwo edgeOf patternOf table
 triangles-computed = refl
 
-pub table-triangles : (k : ℕ) → k < patternCount → (patternAt k .test ≡ 3) × (patternAt k .trial ≡ 3) × (patternOf (patternAt k .shared) ≡ k)
+pub table-triangles : (k : ℕ) → k < triangleCount → (patternAt k .test ≡ 3) × (patternAt k .trial ≡ 3) × (patternOf (patternAt k .shared) ≡ k)
 table-triangles k l =
-    let e = all-at patternCount fromTriangles triangles-computed k l in
+    let e = all-at triangleCount fromTriangles triangles-computed k l in
     let a = eqb (patternAt k .test) 3 in
     let b = eqb (patternAt k .trial) 3 in
     let c = eqb (patternOf (patternAt k .shared)) k in
@@ -92,10 +91,19 @@ table-cases k l = same-eq _ _ (all-at 27 (λ k. same (patternAt k) (pattern 3 3 
 
 -- ---- the number of a pattern
 
+-- it is the least place that has it
+place-least : (x d : Pattern) (ys : List Pattern) → placeOf x ys ≡ least (length ys) (λ k. same (getD ys k d) x)
+unfolding placeOf least
+place-least x d [] = refl
+place-least x d (y ∷ ys) = ap (λ (n : ℕ). cond (same y x) 0 (suc n)) (place-least x d ys)
+
+pub number-least : (x : Pattern) → numberOf x ≡ least tableCount (λ k. same (patternAt k) x)
+unfolding numberOf
+number-least x = place-least x (pattern 0 0 []) table ∙ ap (λ (n : ℕ). least n (λ k. same (patternAt k) x)) table-many
+
 -- it is the place where the table has it
 pub number-is : (x : Pattern) (k : ℕ) → k < tableCount → patternAt k ≡ x → numberOf x ≡ k
-unfolding numberOf
-number-is x k l e = least-is tableCount (λ j. same (patternAt j) x) k (omega arith) earlier (λ _. eq-same (patternAt k) x e)
+number-is x k l e = number-least x ∙ least-is tableCount (λ j. same (patternAt j) x) k (omega arith) earlier (λ _. eq-same (patternAt k) x e)
   where
     earlier : (j : ℕ) → j < k → same (patternAt j) x ≡ false
     earlier j h =
@@ -105,15 +113,17 @@ number-is x k l e = least-is tableCount (λ j. same (patternAt j) x) k (omega ar
         (cases (same (patternAt j) x))
 
 pub number-none : (x : Pattern) → ((k : ℕ) → k < tableCount → patternAt k ≡ x → ⊥) → numberOf x ≡ tableCount
-unfolding numberOf
 number-none x h =
-    least-none tableCount (λ j. same (patternAt j) x)
+    number-least x
+    ∙ least-none tableCount (λ j. same (patternAt j) x)
     (λ k l. ⊎-elim (λ t. absurd (h k l (same-eq (patternAt k) x t))) (λ f. f) (cases (same (patternAt k) x)))
 
 -- a number of the table is the number of the pattern there
 pub number-at : (x : Pattern) → numberOf x < tableCount → patternAt (numberOf x) ≡ x
-unfolding numberOf
-number-at x l = same-eq (patternAt (numberOf x)) x (least-holds tableCount (λ j. same (patternAt j) x) l)
+number-at x l =
+    let f : ℕ → Bool = λ j. same (patternAt j) x in
+    same-eq (patternAt (numberOf x)) x
+    (subst (λ (k : ℕ). same (patternAt k) x ≡ true) (sym (number-least x)) (least-holds tableCount f (subst (λ (k : ℕ). k < tableCount) (number-least x) l)))
 
 -- it is the formula's number where the table has the pattern there; else it has none
 pub number-by-formula : (x : Pattern) → numberOf x ≡ cond (ltb (formulaNumber x) tableCount and same (patternAt (formulaNumber x)) x) (formulaNumber x) tableCount
@@ -136,7 +146,7 @@ number-by-formula x = go (ltb (formulaNumber x) tableCount and same (patternAt (
 
 -- the triangle formula's number, if it is one of a pattern
 abbrev triangleNumber : List Match → ℕ
-triangleNumber ms = cond (ltb (patternOf ms) patternCount) (patternOf ms) tableCount
+triangleNumber ms = cond (ltb (patternOf ms) triangleCount) (patternOf ms) tableCount
 
 unfoldable agrees : List Match → Bool
 agrees ms =
@@ -173,12 +183,16 @@ two-of m n e =
     }
 
 -- one or two: it is a case, which the table has at the formula's number
-few-number : (ms : List Match) → canBe ms ≡ true → numberOf (pattern 3 3 ms) ≡ triangleNumber ms
-few-number ms e =
+pub case-in-table : (ms : List Match) → canBe ms ≡ true → numberOf (pattern 3 3 ms) ≡ patternOf ms
+case-in-table ms e =
     let f = can-be-case ms e in
     let low : patternOf ms < 27 = f .0 in
-    rw (lt-ltb (patternOf ms) patternCount (omega (arith, low)))
-    (number-is (pattern 3 3 ms) (patternOf ms) (omega (arith, low)) (table-cases (patternOf ms) low ∙ ap (pattern 3 3) (f .1)))
+    number-is (pattern 3 3 ms) (patternOf ms) (omega (arith, low)) (table-cases (patternOf ms) low ∙ ap (pattern 3 3) (f .1))
+
+few-number : (ms : List Match) → canBe ms ≡ true → numberOf (pattern 3 3 ms) ≡ triangleNumber ms
+few-number ms e =
+    let low : patternOf ms < 27 = can-be-case ms e .0 in
+    rw (lt-ltb (patternOf ms) triangleCount (omega (arith, low))) (case-in-table ms e)
 
 -- three: their trial places are 0, 1 and 2
 three-number : (m n o : Match) → Two m n → Two n o → numberOf (pattern 3 3 (m ∷ n ∷ o ∷ [])) ≡ triangleNumber (m ∷ n ∷ o ∷ [])
@@ -190,7 +204,7 @@ three-number m n o h k =
     joined refl (omega (arith, a, b, c)) (joined refl (omega (arith, a, b, c)) (joined refl (omega (arith, a, b, c)) refl)) in
     agrees-number _ (subst (λ (ms : List Match). agrees ms ≡ true) places (all-at 3 _ (all-at 3 _ (all-at 3 _ three-computed _ (h .test-first)) _ (h .test-second)) _ (k .test-second)))
 
-pub triangles-number : (ms : List Match) → ofTwoTriangles ms ≡ true → numberOf (pattern 3 3 ms) ≡ cond (ltb (patternOf ms) patternCount) (patternOf ms) tableCount
+pub triangles-number : (ms : List Match) → ofTwoTriangles ms ≡ true → numberOf (pattern 3 3 ms) ≡ cond (ltb (patternOf ms) triangleCount) (patternOf ms) tableCount
 unfolding ofTwoTriangles
 triangles-number [] e = agrees-number [] none-computed
 triangles-number (m ∷ []) e = few-number (m ∷ []) e

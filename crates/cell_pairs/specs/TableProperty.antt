@@ -6,7 +6,7 @@ use mathlib.Core.Bool.{true, cond}
 use mathlib.Core.List.{List, _++_}
 use lib.ListN.{length}
 use lib.Dec.{ltb}
-use Rattle.cell_pairs.specs.Patterns.{Match, patternOf}
+use Rattle.cell_pairs.specs.Matches.{Match, patternOf}
 use Rattle.cell_pairs.specs.Cases.{caseAt}
 use Rattle.cell_pairs.specs.Table.{pattern, table, patternAt, fromTo, numberOf, block, formulaNumber, ofTwoTriangles}
 use Rattle.cell_pairs.specs.TableFacts.{table-many, table-blocks, table-places, table-formula, table-once, table-triangles, table-cases, triangles-number}

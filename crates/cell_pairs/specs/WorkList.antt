@@ -53,12 +53,13 @@ unfoldable pub touchingPair : Mesh → ℕ → ℕ → ℕ → ℕ → List Work
 touchingPair m p v i j =
     when (eqb (pairVertex m i j) v and eqb (pairPattern m i j) p) (rec p i j ∷ [])
 
--- touching pairs: pattern (0 to 27), vertex, test cell, trial cell, all rising
+-- the touching pairs of pattern p: vertex, test cell, trial cell, all rising
+unfoldable pub touchingPattern : Mesh → ℕ → List WorkRecord
+touchingPattern m p = flatMap (λ v. flatMap (λ i. flatMap (λ j. touchingPair m p v i j) (range (m .cells))) (range (m .cells))) (range (m .vertices))
+
+-- touching pairs: pattern (0 to 148), vertex, test cell, trial cell, all rising
 unfoldable pub touchingPart : Mesh → List WorkRecord
-touchingPart m =
-    flatMap
-    (λ p. flatMap (λ v. flatMap (λ i. flatMap (λ j. touchingPair m p v i j) (range (m .cells))) (range (m .cells))) (range (m .vertices)))
-    (range patternCount)
+touchingPart m = flatMap (touchingPattern m) (range patternCount)
 
 -- all: distant first, touching pairs follow
 unfoldable pub workList : Mesh → ℕ → List ℕ → List ℕ → List WorkRecord
@@ -67,6 +68,10 @@ workList m B ts rs = distantPart m B ts rs ++ touchingPart m
 -- S: the ordered pairs of cells that share a vertex, a cell with itself included
 unfoldable pub sharingPairs : Mesh → ℕ
 sharingPairs m = total (λ i. count (λ j. touch m i j) (range (m .cells))) (range (m .cells))
+
+-- of them, those whose test cell is of kind n and whose trial cell is of kind k
+unfoldable pub sharingOf : Mesh → ℕ → ℕ → ℕ
+sharingOf m n k = total (λ i. count (λ j. touch m i j and (eqb (kind m i) n and eqb (kind m j) k)) (range (m .cells))) (range (m .cells))
 
 -- N: those that share none
 unfoldable pub distantPairs : Mesh → ℕ

@@ -21,7 +21,7 @@ pub record Distant (m : Mesh) (r : WorkRecord) : Type 0 where
   pub apart : touch m (r .test) (r .trial) ≡ false
   pub marked : r .pattern ≡ distantPattern
 
--- touching: two cells of the mesh that share a vertex, and their pattern, 0 to 27
+-- touching: two cells of the mesh that share a vertex, and their pattern, 0 to 148
 pub record Touching (m : Mesh) (r : WorkRecord) : Type 0 where
   pub testCell : r .test < m .cells
   pub trialCell : r .trial < m .cells

@@ -13,7 +13,7 @@ use Rattle.grid.specs.Mesh.{Mesh, kind, kindsPresent, corners}
 use Rattle.cell_pairs.specs.declared.WorkRecord.{WorkRecord}
 use Rattle.cell_pairs.specs.Records.{rec, patternCount, distantPattern}
 use Rattle.cell_pairs.specs.Patterns.{touch, pairPattern, pairVertex}
-use Rattle.cell_pairs.specs.WorkList.{coloured, batches, distantPair, distantBatch, distantColours, distantKinds, distantPart, touchingPair, touchingPart}
+use Rattle.cell_pairs.specs.WorkList.{coloured, batches, distantPair, distantBatch, distantColours, distantKinds, distantPart, touchingPair, touchingPattern, touchingPart}
 use Rattle.cell_pairs.specs.WorkRecords.{Distant, Touching}
 use Rattle.cell_pairs.specs.SharedVertices.{smallest-shares}
 
@@ -49,6 +49,11 @@ distant-same m near near′ same B ts rs n k c d = distantColours-same near near
 
 -- ---- each record
 
+-- a touching record of pattern p
+pub record Marked (m : Mesh) (p : ℕ) (r : WorkRecord) : Type 0 where
+  pub touching : Touching m r
+  pub here : r .pattern ≡ p
+
 module _ (m : Mesh) where
   distantPair-each : (i j : ℕ) → i < m .cells → j < m .cells → AllIn (Distant m) (distantPair (touch m) i j)
   unfolding distantPair
@@ -83,25 +88,33 @@ module _ (m : Mesh) where
   unfolding distantPart
   distant-each B ts rs = kinds-each _ (λ n. kinds-each _ (λ k. distantKinds-each B ts rs n k))
 
-  touchingPair-each : (p v i j : ℕ) → p < patternCount → v < m .vertices → i < m .cells → j < m .cells → AllIn (Touching m) (touchingPair m p v i j)
+  touchingPair-each : (p v i j : ℕ) → p < patternCount → v < m .vertices → i < m .cells → j < m .cells → AllIn (Marked m p) (touchingPair m p v i j)
   unfolding touchingPair
   touchingPair-each p v i j hp hv hi hj =
       let smallest : ℕ = pairVertex m i j in
       let pat : ℕ = pairPattern m i j in
-      all-in-when (Touching m) (eqb smallest v and eqb pat p) (rec p i j)
+      all-in-when (Marked m p) (eqb smallest v and eqb pat p) (rec p i j)
       (λ e.
       let here : smallest ≡ v = eqb-true _ _ (and-left _ _ e) in
       record {
-        testCell = hi;
-        trialCell = hj;
-        meet = smallest-shares (m .vertices) (corners m i) (corners m j) (omega arith);
-        marked = sym (eqb-true _ _ (and-right (eqb smallest v) _ e));
-        known = hp;
+        touching =
+            record {
+              testCell = hi;
+              trialCell = hj;
+              meet = smallest-shares (m .vertices) (corners m i) (corners m j) (omega arith);
+              marked = sym (eqb-true _ _ (and-right (eqb smallest v) _ e));
+              known = hp;
+            };
+        here = refl;
       })
+
+  -- each of pattern p
+  pub pattern-each : (p : ℕ) → p < patternCount → AllIn (Marked m p) (touchingPattern m p)
+  unfolding touchingPattern
+  pattern-each p hp =
+      all-in-below (Marked m p) _ _
+      (λ v hv. all-in-below (Marked m p) _ _ (λ i hi. all-in-below (Marked m p) _ _ (λ j hj. touchingPair-each p v i j hp hv hi hj)))
 
   pub touching-each : AllIn (Touching m) (touchingPart m)
   unfolding touchingPart
-  touching-each =
-      all-in-below (Touching m) _ _
-      (λ p hp. all-in-below (Touching m) _ _
-      (λ v hv. all-in-below (Touching m) _ _ (λ i hi. all-in-below (Touching m) _ _ (λ j hj. touchingPair-each p v i j hp hv hi hj))))
+  touching-each = all-in-below (Touching m) _ _ (λ p hp. all-in-weaken (Marked m p) (Touching m) (λ r k. k .touching) (touchingPattern m p) (pattern-each p hp))

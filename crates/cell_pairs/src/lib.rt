@@ -1,5 +1,5 @@
-// Pairs of cells. Here a record of the work list: what it holds, and how it lies in a list of numbers, read and written. In specs/ the patterns of touching
-// pairs, check 7, the work list, and the counting theorem.
+// Pairs of cells. Here a record of the work list: what it holds, and how it lies in a list of numbers, read and written. In specs/ the table of the
+// patterns of touching pairs, check 7, the work list, and the counting theorem.
 ghost use mathlib.Core.Path.{_≡_};
 ghost use mathlib.Core.List.{[], _∷_};
 ghost use Prim.Native.Nat.{_+_, _*_, _≤_};
@@ -12,7 +12,7 @@ ghost use Rattle.cell_pairs.specs.RecordsFacts.{records};
 pub const WIDTH: usize = 3;
 
 // How many patterns touching pairs have: they are the numbers below this.
-pub const PATTERNS: usize = 28;
+pub const PATTERNS: usize = 149;
 
 // Stands where there is no pattern: one more than the last.
 pub const NO_PATTERN: u32 = PATTERNS as u32;

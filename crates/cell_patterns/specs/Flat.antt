@@ -1,34 +1,36 @@
--- Pairs of triangles as the code reads them: the vertices of all cells stand in one flat list, three a cell. Assumes nothing.
+-- Pairs of cells as the code reads them: in rows of four numbers a cell, where the fourth of a triangle is `none`. Assumes nothing.
 use Prim.Native.Nat.{ℕ}
 use mathlib.Core.Bool.{Bool, not}
-use mathlib.Core.List.{List}
+use mathlib.Core.List.{List, [], _∷_}
 use lib.Dec.{ltb}
 use Rattle.lists.specs.Bool.{_or_}
 use Rattle.lists.specs.Bounded.{all}
-use Rattle.grid.specs.Cells.{distinct}
-use Rattle.grid.specs.Shape.{triple, share}
+use Rattle.grid.specs.Cells.{distinct, share}
+use Rattle.grid.specs.Rows.{entity, cellIn}
 use Rattle.cell_pairs.specs.Records.{patternCount}
-use Rattle.cell_pairs.specs.Patterns.{pattern, smallestShared}
-use Rattle.cell_pairs.specs.MatchesFacts.{place}
+use Rattle.cell_pairs.specs.Patterns.{cellsPattern, smallestShared}
 
 -- no vertex stands twice in cell i
-abbrev pub distinctIn : List ℕ → ℕ → Bool
-distinctIn vs i = distinct (triple vs i)
-
--- the place of vertex x in cell i; 3 where it has none
-abbrev pub placeIn : List ℕ → ℕ → ℕ → ℕ
-placeIn vs i x = place (triple vs i) x
+abbrev pub distinctIn : ℕ → List ℕ → ℕ → Bool
+distinctIn none rows i = distinct (cellIn none rows i)
 
 -- the pattern of cells i and j, and their smallest shared vertex, below top
-abbrev pub patternIn : List ℕ → ℕ → ℕ → ℕ
-patternIn vs i j = pattern (triple vs i) (triple vs j)
+abbrev pub patternIn : ℕ → List ℕ → ℕ → ℕ → ℕ
+patternIn none rows i j = cellsPattern (cellIn none rows i) (cellIn none rows j)
 
-abbrev pub smallestIn : List ℕ → ℕ → ℕ → ℕ → ℕ
-smallestIn vs top i j = smallestShared top (triple vs i) (triple vs j)
+abbrev pub smallestIn : ℕ → List ℕ → ℕ → ℕ → ℕ
+smallestIn top rows i j = smallestShared top (cellIn top rows i) (cellIn top rows j)
 
--- check 7 of one pair, and of all pairs of C cells
-abbrev pub pairRight : List ℕ → ℕ → ℕ → Bool
-pairRight vs i j = not (share vs i j) or ltb (patternIn vs i j) patternCount
+-- check 7 of a test cell and a trial cell: of one pair, and of all pairs of C cells
+abbrev pub cellsRight : List ℕ → List ℕ → Bool
+cellsRight xs ys = not (share xs ys) or ltb (cellsPattern xs ys) patternCount
 
-unfoldable pub patternsIn : ℕ → List ℕ → Bool
-patternsIn C vs = all C (λ i. all C (λ j. pairRight vs i j))
+abbrev pub pairRight : ℕ → List ℕ → ℕ → ℕ → Bool
+pairRight none rows i j = cellsRight (cellIn none rows i) (cellIn none rows j)
+
+unfoldable pub patternsIn : ℕ → ℕ → List ℕ → Bool
+patternsIn none C rows = all C (λ i. all C (λ j. pairRight none rows i j))
+
+-- the first three numbers of row i: the vertices of a triangle
+abbrev pub three : List ℕ → ℕ → List ℕ
+three rows i = entity rows i 0 ∷ entity rows i 1 ∷ entity rows i 2 ∷ []

@@ -1,75 +1,113 @@
--- Laws on patterns, by the places of shared vertices (`MatchesFacts`), on check 7 and on the smallest shared vertex. Assumes nothing.
-use Prim.Native.Nat.{ℕ, _+_, _*_, _<_, _≤_}
+-- Laws of patterns, of check 7 and of the smallest shared vertex: of two triangles by the places of shared vertices (`MatchesFacts`), and of cells in rows.
+-- Assumes nothing.
+use Prim.Native.Nat.{ℕ, _+_, _-_, _*_, _<_, _≤_}
 use native.Mathlib.Nat.{add-zero}
 use native.Mathlib.Omega.{arith}
-use mathlib.Core.Path.{_≡_, refl, sym, ap, subst, _∙_}
+use mathlib.Core.Path.{_≡_, refl, sym, ap, ap₂, subst, _∙_}
 use mathlib.Core.Bool.{Bool, true, false, cond, not}
 use mathlib.Core.Logic.{_⊎_, inl, inr, ⊎-elim}
 use mathlib.Core.List.{List, [], _∷_}
-use lib.ListN.{length, getD}
+use lib.ListN.{length, getD, take, drop, length-drop}
+use lib.Seq.{length-take-le, getD-take, getD-drop}
 use lib.Dec.{eqb, ltb}
 use borrow.Author.Tests.{eqb-true, ltb-true, ltb-false, lt-ltb}
-use Rattle.lists.specs.Bool.{_and_, _or_, true≢false, cases, every, every-at, every-fails, every-of, _also_, end, and-both, and-no-left, and-no-right, or-cases, or-left, or-right, same-test, turned, passed}
-use Rattle.lists.specs.Bounded.{all, some, least-is, all-at, all-of, all-ext}
+use Rattle.lists.specs.Bool.{_and_, _or_, true≢false, cases, every, every-at, every-fails, every-of, _also_, end, and-left, and-right, and-both, and-no-left, and-no-right, or-cases, or-left, or-right, same-test, turned, passed}
+use Rattle.lists.specs.Bounded.{all, some, least-is, all-at, all-of, all-ext, eq-or-ne, lt-or-le}
 use Rattle.lists.specs.Total.{gate}
-use Rattle.grid.specs.Cells.{has as has-number, share as share-number}
-use Rattle.grid.specs.CellsFacts.{share-which, share-at, share-turned}
-use Rattle.grid.specs.Shape.{entity, triple, has, share}
-use Rattle.grid.specs.Mesh.{Mesh, triangles}
-use Rattle.grid.specs.Facts.{has-at, has-place, corners-triple}
+use Rattle.grid.specs.Cells.{has, share, distinct}
+use Rattle.grid.specs.CellsFacts.{has-at, has-place, share-which, share-at, share-turned}
+use Rattle.grid.specs.Rows.{entity, row, cellIn}
+use Rattle.grid.specs.RowsFacts.{has-at as row-has, cell-three, cell-four, cell-length, cell-most, cell-entity, cell-in-row, has-row, Padded, cell-number}
+use Rattle.grid.specs.Mesh.{Mesh, corners}
 use Rattle.cells_by_key.specs.Groups.{cellsWith, part, Grouped, Below}
 use Rattle.cells_by_key.specs.GroupsFacts.{grouped-each, group-place, group-cells}
 use Rattle.cell_pairs.specs.Records.{patternCount}
-use Rattle.cell_pairs.specs.Patterns.{patternOf, pattern, smallestShared, patternsRight}
-use Rattle.cell_pairs.specs.MatchesFacts.{Lone, lone, firstOf, Places, places-of, matchesAt, at-by, matches-at, has-is-place}
+use Rattle.cell_pairs.specs.Matches.{Match, triangleCount, patternOf}
+use Rattle.cell_pairs.specs.Patterns.{cellsPattern, smallestShared, patternsRight}
+use Rattle.cell_pairs.specs.Cases.{canBe}
+use Rattle.cell_pairs.specs.Table.{pattern, numberOf, ofTwoTriangles}
+use Rattle.cell_pairs.specs.TableFacts.{triangles-number}
+use Rattle.cell_pairs.specs.MatchesFacts.{Lone, lone, firstOf, place, Places, places-of, matchesAt, at-by, matches-at, has-is-place}
 use Rattle.cell_pairs.specs.CasesFacts.{can-be-case, few-can-be}
-use Rattle.cell_patterns.specs.Flat.{distinctIn, placeIn, patternIn, smallestIn, pairRight, patternsIn}
+use Rattle.cell_patterns.specs.Flat.{distinctIn, three, smallestIn, cellsRight, pairRight, patternsIn}
 
 -- ---- places
 
-pub pattern-at : (vs : List ℕ) (i j : ℕ) → distinctIn vs i ≡ true
-    → patternIn vs i j ≡ patternOf (matchesAt (placeIn vs i (entity vs j 0)) (placeIn vs i (entity vs j 1)) (placeIn vs i (entity vs j 2)))
-unfolding pattern
-pattern-at vs i j d = ap patternOf (matches-at (triple vs i) (triple vs j) refl refl d)
+pub pattern-at : (rows : List ℕ) (i j : ℕ) → distinct (three rows i) ≡ true
+    → cellsPattern (three rows i) (three rows j) ≡ numberOf (pattern 3 3 (matchesAt (place (three rows i) (entity rows j 0)) (place (three rows i) (entity rows j 1)) (place (three rows i) (entity rows j 2))))
+pattern-at rows i j d = ap (λ (ms : List Match). numberOf (pattern 3 3 ms)) (matches-at (three rows i) (three rows j) refl refl d)
 
 -- the first number of a cell, as code reads it
-first-of : (vs : List ℕ) (j : ℕ) → getD vs (3 * j) 0 ≡ entity vs j 0
-first-of vs j = ap (λ (k : ℕ). getD vs k 0) (sym (add-zero (3 * j)))
+first-of : (rows : List ℕ) (j : ℕ) → getD rows (4 * j) 0 ≡ entity rows j 0
+first-of rows j = ap (λ (k : ℕ). getD rows k 0) (sym (add-zero (4 * j)))
 
-module _ (vs : List ℕ) (i j : ℕ) {a b c : ℕ} (e : a ≡ placeIn vs i (getD vs (3 * j) 0)) (f : b ≡ placeIn vs i (entity vs j 1)) (g : c ≡ placeIn vs i (entity vs j 2)) where
-  first-place-of : a ≡ placeIn vs i (entity vs j 0)
-  first-place-of = e ∙ ap (λ (x : ℕ). placeIn vs i x) (first-of vs j)
+module _ (rows : List ℕ) (i j : ℕ) {a b c : ℕ} (e : a ≡ place (three rows i) (getD rows (4 * j) 0)) (f : b ≡ place (three rows i) (entity rows j 1)) (g : c ≡ place (three rows i) (entity rows j 2)) where
+  first-place-of : a ≡ place (three rows i) (entity rows j 0)
+  first-place-of = e ∙ ap (λ (x : ℕ). place (three rows i) x) (first-of rows j)
 
   -- three places that are found for the vertices of cell j
-  pub found-places : distinctIn vs j ≡ true → Places a b c
-  found-places d = rw (first-place-of, f, g) (places-of (triple vs i) (triple vs j) refl d)
+  pub found-places : distinct (three rows j) ≡ true → Places a b c
+  found-places d = rw (first-place-of, f, g) (places-of (three rows i) (three rows j) refl d)
 
   -- the pattern of these
-  pub found-pattern : distinctIn vs i ≡ true → {r : ℕ} → r ≡ patternOf (matchesAt a b c) → r ≡ patternIn vs i j
-  found-pattern d h = h ∙ rw (first-place-of, f, g) (sym (pattern-at vs i j d))
+  pub found-pattern : distinct (three rows i) ≡ true → {r : ℕ} → r ≡ numberOf (pattern 3 3 (matchesAt a b c)) → r ≡ cellsPattern (three rows i) (three rows j)
+  found-pattern d h = h ∙ rw (first-place-of, f, g) (sym (pattern-at rows i j d))
 
 -- the pattern of three shared vertices
 abbrev pub threePattern : ℕ → ℕ → ℕ → ℕ
 threePattern a b c = cond (eqb a 0 and eqb b 1 and eqb c 2) 27 patternCount
 
-at-abc : {a b c : ℕ} → a < 3 → b < 3 → c < 3 → patternOf (matchesAt a b c) ≡ threePattern a b c
+-- two places are the same, and below 3
+abbrev pub clash : ℕ → ℕ → Bool
+clash a b = ltb a 3 and eqb a b
+
+-- computed over all places: these are shared vertices of two triangles
+two-computed : all 4 (λ a. all 4 (λ b. all 4 (λ c. clash a b or clash a c or clash b c or ofTwoTriangles (matchesAt a b c)))) ≡ true
+unfolding all _and_ _or_ every canBe ofTwoTriangles matchesAt
+two-computed = refl
+
+module _ {a b c : ℕ} (h : Places a b c) where
+  apart : {p q : ℕ} → (p < 3 → p ≡ q → ⊥) → clash p q ≡ true → ⊥
+  apart {p} {q} n e = n (ltb-true _ _ (and-left _ _ e)) (eqb-true _ _ (and-right (ltb p 3) _ e))
+
+  -- what holds of all places that do not clash
+  pub at-places : (f : ℕ → ℕ → ℕ → Bool) → all 4 (λ a. all 4 (λ b. all 4 (λ c. clash a b or clash a c or clash b c or f a b c))) ≡ true → f a b c ≡ true
+  at-places f e =
+      let t : clash a b or clash a c or clash b c or f a b c ≡ true = all-at 4 _ (all-at 4 _ (all-at 4 _ e _ (h .most .0)) _ (h .most .1)) _ (h .most .2) in
+      ⊎-elim
+      (λ t. absurd (⊎-elim (λ u. ⊎-elim (apart (h .ab)) (apart (h .ac)) (or-cases _ _ u)) (apart (h .bc)) (or-cases _ _ t)))
+      (λ r. r) (or-cases _ _ t)
+
+  -- the table's number is the triangle formula's
+  pub number-places : numberOf (pattern 3 3 (matchesAt a b c)) ≡ cond (ltb (patternOf (matchesAt a b c)) triangleCount) (patternOf (matchesAt a b c)) patternCount
+  number-places = triangles-number _ (at-places (λ a b c. ofTwoTriangles (matchesAt a b c)) two-computed)
+
+  -- one or two shared vertices have one
+  few-number : canBe (matchesAt a b c) ≡ true → numberOf (pattern 3 3 (matchesAt a b c)) < patternCount
+  few-number e =
+      let low : patternOf (matchesAt a b c) < 27 = can-be-case _ e .0 in
+      rw (number-places, lt-ltb (patternOf (matchesAt a b c)) triangleCount (omega (arith, low))) (omega (arith, low))
+
+three-kept : (b : Bool) → cond (ltb (cond b 27 triangleCount) triangleCount) (cond b 27 triangleCount) patternCount ≡ cond b 27 patternCount
+three-kept true = refl
+three-kept false = refl
+
+three-formula : (a b c : ℕ) → a < 3 → b < 3 → c < 3 → patternOf (matchesAt a b c) ≡ cond (eqb a 0 and eqb b 1 and eqb c 2) 27 triangleCount
 unfolding patternOf
-at-abc {a} {b} {c} h k l = ap patternOf (at-by a b c (lt-ltb _ _ h) (lt-ltb _ _ k) (lt-ltb _ _ l))
+three-formula a b c h k l = ap patternOf (at-by a b c (lt-ltb _ _ h) (lt-ltb _ _ k) (lt-ltb _ _ l))
+
+at-abc : {a b c : ℕ} → Places a b c → a < 3 → b < 3 → c < 3 → numberOf (pattern 3 3 (matchesAt a b c)) ≡ threePattern a b c
+at-abc {a} {b} {c} p h k l = number-places p ∙ rw (three-formula a b c h k l) (three-kept (eqb a 0 and eqb b 1 and eqb c 2))
 
 -- ---- which vertices are shared
 
-pub has-cases : (vs : List ℕ) (i x : ℕ) → has vs i x ≡ true → (entity vs i 0 ≡ x) ⊎ ((entity vs i 1 ≡ x) ⊎ (entity vs i 2 ≡ x))
-unfolding has-number some _or_
-has-cases vs i x h =
-    ⊎-elim (λ k. ⊎-elim (λ e. inl (eqb-true _ _ e)) (λ e. inr (inl (eqb-true _ _ e))) (or-cases _ _ k)) (λ e. inr (inr (eqb-true _ _ e))) (or-cases _ _ h)
-
 -- cells that share a vertex: one of cell j is in cell i
-share-any : (vs : List ℕ) (i j : ℕ) → share vs i j ≡ true → has vs i (entity vs j 0) or has vs i (entity vs j 1) or has vs i (entity vs j 2) ≡ true
-unfolding share-number some _or_
-share-any vs i j h = share-turned (triple vs i) (triple vs j) h
+share-any : (rows : List ℕ) (i j : ℕ) → share (three rows i) (three rows j) ≡ true → has (three rows i) (entity rows j 0) or has (three rows i) (entity rows j 1) or has (three rows i) (entity rows j 2) ≡ true
+unfolding share some _or_
+share-any rows i j h = share-turned (three rows i) (three rows j) h
 
-share-first : (vs : List ℕ) (i j : ℕ) → has vs i (entity vs j 0) ≡ true → share vs i j ≡ true
-share-first vs i j h = share-at (triple vs i) (triple vs j) (entity vs j 0) h (has-at vs j 0 (entity vs j 0) (omega arith) refl)
+share-first : (rows : List ℕ) (i j : ℕ) → has (three rows i) (entity rows j 0) ≡ true → share (three rows i) (three rows j) ≡ true
+share-first rows i j h = share-at (three rows i) (three rows j) (entity rows j 0) h (has-at (three rows j) 0 (entity rows j 0) (omega arith) refl)
 
 -- ---- check 7
 
@@ -87,11 +125,11 @@ one-or-two false false false s t = absurd (true≢false (sym s))
 
 -- all three vertices of cell j are vertices of cell i
 abbrev pub sharesAll : List ℕ → ℕ → ℕ → Bool
-sharesAll vs i j = every (has vs i (entity vs j 0) ∷ has vs i (entity vs j 1) ∷ has vs i (entity vs j 2) ∷ [])
+sharesAll rows i j = every (has (three rows i) (entity rows j 0) ∷ has (three rows i) (entity rows j 1) ∷ has (three rows i) (entity rows j 2) ∷ [])
 
 -- cells i and j have the same list
 abbrev pub sameList : List ℕ → ℕ → ℕ → Bool
-sameList vs i j = eqb (entity vs i 0) (entity vs j 0) and eqb (entity vs i 1) (entity vs j 1) and eqb (entity vs i 2) (entity vs j 2)
+sameList rows i j = eqb (entity rows i 0) (entity rows j 0) and eqb (entity rows i 1) (entity rows j 1) and eqb (entity rows i 2) (entity rows j 2)
 
 first-place : (e f g : Bool) → eqb (firstOf e f g) 0 ≡ e
 unfolding firstOf
@@ -121,84 +159,159 @@ three-right : (b : Bool) → ltb (cond b 27 patternCount) patternCount ≡ b
 three-right true = refl
 three-right false = refl
 
-module _ (vs : List ℕ) (i j : ℕ) (d : distinctIn vs i ≡ true) (k : distinctIn vs j ≡ true) where
+module _ (rows : List ℕ) (i j : ℕ) (d : distinct (three rows i) ≡ true) (k : distinct (three rows j) ≡ true) where
   -- a pair that shares one or two vertices has a pattern: one of the 27 cases
-  share-few : share vs i j ≡ true → sharesAll vs i j ≡ false → patternIn vs i j < patternCount
+  share-few : share (three rows i) (three rows j) ≡ true → sharesAll rows i j ≡ false → cellsPattern (three rows i) (three rows j) < patternCount
   share-few s t =
       let few =
-      few-can-be _ _ _ (places-of (triple vs i) (triple vs j) refl k)
-      (rw (has-is-place (triple vs i) (entity vs j 0) refl, has-is-place (triple vs i) (entity vs j 1) refl, has-is-place (triple vs i) (entity vs j 2) refl) at (one-or-two _ _ _ (share-any vs i j s) t)) in
-      rw (pattern-at vs i j d) (omega (arith, can-be-case _ few .0))
+      few-can-be _ _ _ (places-of (three rows i) (three rows j) refl k)
+      (rw (has-is-place (three rows i) (entity rows j 0) refl, has-is-place (three rows i) (entity rows j 1) refl, has-is-place (three rows i) (entity rows j 2) refl) at (one-or-two _ _ _ (share-any rows i j s) t)) in
+      rw (pattern-at rows i j d) (few-number (places-of (three rows i) (three rows j) refl k) few)
 
   -- a pair that does not share three vertices passes
-  pub few-right : sharesAll vs i j ≡ false → pairRight vs i j ≡ true
-  few-right t = ⊎-elim (λ s. or-right _ _ (lt-ltb _ _ (share-few s t))) (λ s. or-left _ _ (ap not s)) (cases (share vs i j))
+  pub few-right : sharesAll rows i j ≡ false → cellsRight (three rows i) (three rows j) ≡ true
+  few-right t = ⊎-elim (λ s. or-right _ _ (lt-ltb _ _ (share-few s t))) (λ s. or-left _ _ (ap not s)) (cases (share (three rows i) (three rows j)))
 
-  shared : (q : ℕ) → has vs i (entity vs j q) ≡ true → placeIn vs i (entity vs j q) < 3
-  shared q h = ltb-true _ _ (sym (has-is-place (triple vs i) (entity vs j q) refl) ∙ h)
+  shared : (q : ℕ) → has (three rows i) (entity rows j q) ≡ true → place (three rows i) (entity rows j q) < 3
+  shared q h = ltb-true _ _ (sym (has-is-place (three rows i) (entity rows j q) refl) ∙ h)
 
   -- the pattern of a pair that shares three
-  all-pattern : sharesAll vs i j ≡ true → patternIn vs i j ≡ cond (sameList vs i j) 27 patternCount
+  all-pattern : sharesAll rows i j ≡ true → cellsPattern (three rows i) (three rows j) ≡ cond (sameList rows i j) 27 patternCount
   all-pattern t =
-      pattern-at vs i j d
-      ∙ at-abc (shared 0 (every-at _ t 0)) (shared 1 (every-at _ t 1)) (shared 2 (every-at _ t 2))
-      ∙ rw (first-place (eqb (entity vs i 0) (entity vs j 0)), second-place _ _ _ (lone (triple vs i) (entity vs j 1) refl d), third-place _ _ _ (lone (triple vs i) (entity vs j 2) refl d))
+      pattern-at rows i j d
+      ∙ at-abc (places-of (three rows i) (three rows j) refl k) (shared 0 (every-at _ t 0)) (shared 1 (every-at _ t 1)) (shared 2 (every-at _ t 2))
+      ∙ rw (first-place (eqb (entity rows i 0) (entity rows j 0)), second-place _ _ _ (lone (three rows i) (entity rows j 1) refl d), third-place _ _ _ (lone (three rows i) (entity rows j 2) refl d))
 
   -- it passes where the two lists are the same
-  pub all-right : sharesAll vs i j ≡ true → pairRight vs i j ≡ sameList vs i j
+  pub all-right : sharesAll rows i j ≡ true → cellsRight (three rows i) (three rows j) ≡ sameList rows i j
   unfolding _or_
-  all-right t = rw (share-first vs i j (every-at _ t 0), all-pattern t) (three-right (sameList vs i j))
+  all-right t = rw (share-first rows i j (every-at _ t 0), all-pattern t) (three-right (sameList rows i j))
 
   -- the answers of a search that stops early
-  pub first-missing : {b : Bool} → b ≡ has vs i (getD vs (3 * j) 0) → not b ≡ true → true ≡ pairRight vs i j
-  first-missing e h = sym (few-right (every-fails _ 0 (rw (← first-of vs j) (turned e h))))
+  pub first-missing : {b : Bool} → b ≡ has (three rows i) (getD rows (4 * j) 0) → not b ≡ true → true ≡ cellsRight (three rows i) (three rows j)
+  first-missing e h = sym (few-right (every-fails _ 0 (rw (← first-of rows j) (turned e h))))
 
-  pub none-missing : {a b c : Bool} → a ≡ has vs i (getD vs (3 * j) 0) → not a ≡ false → b ≡ has vs i (entity vs j 1) → not b ≡ false → c ≡ has vs i (entity vs j 2) → not c ≡ false
-      → pairRight vs i j ≡ sameList vs i j
-  none-missing e h f k g l = all-right (every-of (rw (← first-of vs j) (passed e h) also passed f k also passed g l also end))
+  pub none-missing : {a b c : Bool} → a ≡ has (three rows i) (getD rows (4 * j) 0) → not a ≡ false → b ≡ has (three rows i) (entity rows j 1) → not b ≡ false → c ≡ has (three rows i) (entity rows j 2) → not c ≡ false
+      → cellsRight (three rows i) (three rows j) ≡ sameList rows i j
+  none-missing e h f k g l = all-right (every-of (rw (← first-of rows j) (passed e h) also passed f k also passed g l also end))
+
+-- ---- a cell in its row
+
+-- a list of three, and of four
+by-three : (xs : List ℕ) → length xs ≡ 3 → xs ≡ getD xs 0 0 ∷ getD xs 1 0 ∷ getD xs 2 0 ∷ []
+by-three [] e = absurd (omega arith)
+by-three (a ∷ []) e = absurd (omega arith)
+by-three (a ∷ b ∷ []) e = absurd (omega arith)
+by-three (a ∷ b ∷ c ∷ []) e = refl
+by-three (a ∷ b ∷ c ∷ d ∷ xs) e = absurd (omega arith)
+
+by-four : (xs : List ℕ) → length xs ≡ 4 → xs ≡ getD xs 0 0 ∷ getD xs 1 0 ∷ getD xs 2 0 ∷ getD xs 3 0 ∷ []
+by-four [] e = absurd (omega arith)
+by-four (a ∷ []) e = absurd (omega arith)
+by-four (a ∷ b ∷ []) e = absurd (omega arith)
+by-four (a ∷ b ∷ c ∷ []) e = absurd (omega arith)
+by-four (a ∷ b ∷ c ∷ d ∷ []) e = refl
+by-four (a ∷ b ∷ c ∷ d ∷ x ∷ xs) e = absurd (omega arith)
+
+module _ (none : ℕ) (rows : List ℕ) where
+  -- a cell of a row has three vertices or four
+  pub cell-few : (i : ℕ) → (3 ≤ length (cellIn none rows i)) × (length (cellIn none rows i) ≤ 4)
+  cell-few i = rw (cell-length none rows i) (go (eqb (entity rows i 3) none))
+    where
+      go : (b : Bool) → (3 ≤ cond b 3 4) × (cond b 3 4 ≤ 4)
+      go true = (omega arith, omega arith)
+      go false = (omega arith, omega arith)
+
+  module _ (i j : ℕ) {b : Bool} (e : b ≡ (eqb (entity rows i 3) none and eqb (entity rows j 3) none)) (t : b ≡ true) where
+    -- both are triangles
+    both-test : cellIn none rows i ≡ three rows i
+    both-test = cell-three none rows i (eqb-true _ _ (and-left _ _ (sym e ∙ t)))
+
+    both-trial : cellIn none rows j ≡ three rows j
+    both-trial = cell-three none rows j (eqb-true _ _ (and-right (eqb (entity rows i 3) none) _ (sym e ∙ t)))
+
+    pub both-apart : distinctIn none rows i ≡ true → distinctIn none rows j ≡ true → (distinct (three rows i) ≡ true) × (distinct (three rows j) ≡ true)
+    both-apart d f = (subst (λ (xs : List ℕ). distinct xs ≡ true) both-test d, subst (λ (xs : List ℕ). distinct xs ≡ true) both-trial f)
+
+    -- what these two have, the two cells have
+    pub both-have : {A : Type 0} (f : List ℕ → List ℕ → A) {r : A} → r ≡ f (three rows i) (three rows j) → r ≡ f (cellIn none rows i) (cellIn none rows j)
+    both-have f h = h ∙ sym (ap₂ f both-test both-trial)
+
+  -- the vertices of a cell, cut out of the list
+  module _ (i : ℕ) (h : 4 * i + 4 ≤ length rows) where
+    cut : (n : ℕ) → n ≤ 4 → length (take n (drop (4 * i) rows)) ≡ n
+    cut n l = length-take-le n (drop (4 * i) rows) (omega (arith, length-drop (4 * i) rows))
+
+    cut-at : (n p : ℕ) → p < n → getD (take n (drop (4 * i) rows)) p 0 ≡ entity rows i p
+    cut-at n p l = getD-take n (drop (4 * i) rows) p 0 l ∙ getD-drop (4 * i) rows p 0
+
+    pub cut-three : entity rows i 3 ≡ none → take (4 * i + 3 - 4 * i) (drop (4 * i) rows) ≡ cellIn none rows i
+    cut-three e =
+        let k : 4 * i + 3 - 4 * i ≡ 3 = omega arith in
+        rw k
+        (by-three _ (cut 3 (omega arith)) ∙ rw (cut-at 3 0 (omega arith), cut-at 3 1 (omega arith), cut-at 3 2 (omega arith)) (sym (cell-three none rows i e)))
+
+    pub cut-four : (entity rows i 3 ≡ none → ⊥) → take (4 * i + 4 - 4 * i) (drop (4 * i) rows) ≡ cellIn none rows i
+    cut-four e =
+        let k : 4 * i + 4 - 4 * i ≡ 4 = omega arith in
+        rw k
+        (by-four _ (cut 4 (omega arith))
+        ∙ rw (cut-at 4 0 (omega arith), cut-at 4 1 (omega arith), cut-at 4 2 (omega arith), cut-at 4 3 (omega arith)) (sym (cell-four none rows i e)))
 
 -- ---- check 7, by vertex
 
 -- no vertex stands twice in a cell
-pub record Apart (vs : List ℕ) : Type 0 where
-  pub apart : (i : ℕ) → 3 * i + 3 ≤ length vs → distinctIn vs i ≡ true
+pub record Apart (none : ℕ) (rows : List ℕ) : Type 0 where
+  pub apart : (i : ℕ) → 4 * i + 4 ≤ length rows → distinctIn none rows i ≡ true
 
 -- each cell of a list against each
-unfoldable pub groupRight : List ℕ → List ℕ → Bool
-groupRight vs cells = all (length cells) (λ k. all (length cells) (λ l. pairRight vs (getD cells k 0) (getD cells l 0)))
+unfoldable pub groupRight : ℕ → List ℕ → List ℕ → Bool
+groupRight none rows cells = all (length cells) (λ k. all (length cells) (λ l. pairRight none rows (getD cells k 0) (getD cells l 0)))
+
+-- a vertex of a cell is below `none`
+vertex-below : {none : ℕ} {rows : List ℕ} → Padded none rows → Below rows (none + 1) → (i : ℕ) → 4 * i + 4 ≤ length rows → (x : ℕ) → has (cellIn none rows i) x ≡ true → x < none
+vertex-below {none} {rows} padded below i l x h =
+    let w = has-place (cellIn none rows i) x h in
+    let e : entity rows i (w .0) ≡ x = sym (cell-entity none rows i (w .0) (w .1)) ∙ w .2 in
+    let p : w .0 < 4 = omega (arith, w .1, cell-most none rows i) in
+    let b : entity rows i (w .0) < none + 1 = below .below (4 * i + w .0) (omega (arith, p)) in
+    ⊎-elim (λ n. absurd (cell-number padded i l (w .0) (w .1) (e ∙ n))) (λ n. ⊎-elim (λ y. y) (λ y. absurd (n (omega (arith, b, e, y)))) (lt-or-le x none)) (eq-or-ne x none)
 
 -- all pairs pass exactly where those of the cells at each vertex do, as a pair that shares no vertex passes
-pub groups-all : (C top : ℕ) (vs : List ℕ) → length vs ≡ 3 * C → Below vs top → all top (λ v. groupRight vs (cellsWith vs 3 v)) ≡ patternsIn C vs
+pub groups-all : (none C : ℕ) (rows : List ℕ) → length rows ≡ 4 * C → Padded none rows → Below rows (none + 1)
+    → all none (λ v. groupRight none rows (cellsWith rows 4 v)) ≡ patternsIn none C rows
 unfolding groupRight patternsIn
-groups-all C top vs e below = same-test _ _ there back
+groups-all none C rows e padded below = same-test _ _ there back
   where
-    there : all top (λ v. groupRight vs (cellsWith vs 3 v)) ≡ true → patternsIn C vs ≡ true
-    there h = all-of C _ (λ i li. all-of C _ (λ j lj. ⊎-elim (λ s. met i j li lj (share-which (triple vs i) (triple vs j) s)) (λ s. or-left _ _ (ap not s)) (cases (share vs i j))))
+    there : all none (λ v. groupRight none rows (cellsWith rows 4 v)) ≡ true → patternsIn none C rows ≡ true
+    there h =
+        all-of C _
+        (λ i li. all-of C _
+        (λ j lj. ⊎-elim (λ s. met i j li lj (share-which (cellIn none rows i) (cellIn none rows j) s)) (λ s. or-left _ _ (ap not s)) (cases (share (cellIn none rows i) (cellIn none rows j)))))
       where
-        met : (i j : ℕ) → i < C → j < C → (x : ℕ) × (has vs i x ≡ true) × (has vs j x ≡ true) → pairRight vs i j ≡ true
+        met : (i j : ℕ) → i < C → j < C → (x : ℕ) × (has (cellIn none rows i) x ≡ true) × (has (cellIn none rows j) x ≡ true) → pairRight none rows i j ≡ true
         met i j li lj w =
-            let p = has-place vs i (w .0) (w .1) in
-            let x : w .0 < top = rw (← p .2) (below .below (3 * i + p .0) (omega (arith, p .1))) in
-            let k = group-place vs (w .0) i (omega arith) (w .1) in
-            let l = group-place vs (w .0) j (omega arith) (w .2) in
-            rw (k .2, l .2) at (all-at _ _ (all-at _ _ (all-at top _ h (w .0) x) (k .0) (k .1)) (l .0) (l .1))
+            let x : w .0 < none = vertex-below padded below i (omega arith) (w .0) (w .1) in
+            let k = group-place rows (w .0) i (omega arith) (cell-in-row none rows i (w .0) (w .1)) in
+            let l = group-place rows (w .0) j (omega arith) (cell-in-row none rows j (w .0) (w .2)) in
+            rw (k .2, l .2) at (all-at _ _ (all-at _ _ (all-at none _ h (w .0) x) (k .0) (k .1)) (l .0) (l .1))
 
-    back : patternsIn C vs ≡ true → all top (λ v. groupRight vs (cellsWith vs 3 v)) ≡ true
+    back : patternsIn none C rows ≡ true → all none (λ v. groupRight none rows (cellsWith rows 4 v)) ≡ true
     back h =
-        all-of top _
+        all-of none _
         (λ v _. all-of _ _
-        (λ k lk. all-of _ _ (λ l ll. all-at C _ (all-at C _ h _ (omega (arith, group-cells vs v C e .cell k lk))) _ (omega (arith, group-cells vs v C e .cell l ll)))))
+        (λ k lk. all-of _ _ (λ l ll. all-at C _ (all-at C _ h _ (omega (arith, group-cells rows v C e .cell k lk))) _ (omega (arith, group-cells rows v C e .cell l ll)))))
 
--- with the groups as they stand in the order
-pub parts-all : (C : ℕ) {n : ℕ} (vs : List ℕ) {order ends : List ℕ} → length vs ≡ 3 * C → Below vs n → Grouped order ends n (cellsWith vs 3)
-    → all (length ends) (λ v. groupRight vs (part order ends v)) ≡ patternsIn C vs
-parts-all C {n} vs e below g = rw (g .size) (all-ext n _ _ (λ v l. ap (groupRight vs) (grouped-each g v l)) ∙ groups-all C n vs e below)
+-- with the groups as they stand in the order; the last, of `none`, is left out
+pub parts-all : (none C : ℕ) (rows : List ℕ) {n : ℕ} {order ends : List ℕ} → length rows ≡ 4 * C → Padded none rows → n ≡ none + 1 → Below rows n → Grouped order ends n (cellsWith rows 4)
+    → {r : Bool} → r ≡ all none (λ v. groupRight none rows (part order ends v)) → r ≡ patternsIn none C rows
+parts-all none C rows e padded k below g h =
+    h ∙ all-ext none _ _ (λ v l. ap (groupRight none rows) (grouped-each g v (omega arith))) ∙ groups-all none C rows e padded (subst (Below rows) k below)
 
--- of a mesh of triangles this is check 7
-pub mesh-patterns : (m : Mesh) → m .kinds ≡ triangles (m .cells) → length (m .cellVertices) ≡ 3 * m .cells → patternsIn (m .cells) (m .cellVertices) ≡ patternsRight m
+-- of the rows of a mesh this is check 7
+pub mesh-patterns : (m : Mesh) (none : ℕ) (rows : List ℕ) → ((i : ℕ) → i < m .cells → cellIn none rows i ≡ corners m i) → patternsIn none (m .cells) rows ≡ patternsRight m
 unfolding patternsIn patternsRight
-mesh-patterns m e long =
-    all-ext (m .cells) _ _ (λ i hi. all-ext (m .cells) _ _ (λ j hj. rw (corners-triple m e long i hi, corners-triple m e long j hj)))
+mesh-patterns m none rows e = all-ext (m .cells) _ _ (λ i hi. all-ext (m .cells) _ _ (λ j hj. rw (e i hi, e j hj)))
 
 -- ---- the smallest shared vertex
 
@@ -221,62 +334,88 @@ lower-before b x m h = ⊎-elim (λ e. absurd (⊎-elim (λ l. omega arith) (λ 
 lower-is : (b : Bool) (x m : ℕ) → ((b ≡ true) × (lower b x m ≡ x)) ⊎ (lower b x m ≡ m)
 lower-is b x m = ⊎-elim (λ h. inl (h .0, h .1 .1)) (λ h. inr (h .1)) (lower-cases b x m)
 
--- the lowest vertex of cell i, below top, that is one of cell j; each vertex is taken where it is lower than those before it
+-- the lowest number of row i, below top, that is one of row j; each number is taken where it is lower than those before it
 unfoldable pub lowest : List ℕ → ℕ → ℕ → ℕ → ℕ
-lowest vs top i j =
-    lower (has vs j (entity vs i 2)) (entity vs i 2)
-    (lower (has vs j (entity vs i 1)) (entity vs i 1)
-    (lower (has vs j (entity vs i 0)) (entity vs i 0) top))
+lowest rows top i j =
+    lower (has (row rows j) (entity rows i 3)) (entity rows i 3)
+    (lower (has (row rows j) (entity rows i 2)) (entity rows i 2)
+    (lower (has (row rows j) (entity rows i 1)) (entity rows i 1)
+    (lower (has (row rows j) (entity rows i 0)) (entity rows i 0) top)))
 
-module _ (vs : List ℕ) (top i j : ℕ) where
+-- the four numbers of a row
+row-cases : (rows : List ℕ) (i x : ℕ) → has (row rows i) x ≡ true → (entity rows i 0 ≡ x) ⊎ ((entity rows i 1 ≡ x) ⊎ ((entity rows i 2 ≡ x) ⊎ (entity rows i 3 ≡ x)))
+unfolding has some _or_
+row-cases rows i x h =
+    ⊎-elim
+    (λ k.
+    ⊎-elim (λ l. ⊎-elim (λ e. inl (eqb-true _ _ e)) (λ e. inr (inl (eqb-true _ _ e))) (or-cases _ _ l)) (λ e. inr (inr (inl (eqb-true _ _ e)))) (or-cases _ _ k))
+    (λ e. inr (inr (inr (eqb-true _ _ e)))) (or-cases _ _ h)
+
+module _ (rows : List ℕ) (top i j : ℕ) where
   abbrev one : ℕ
-  one = lower (has vs j (entity vs i 0)) (entity vs i 0) top
+  one = lower (has (row rows j) (entity rows i 0)) (entity rows i 0) top
 
   abbrev two : ℕ
-  two = lower (has vs j (entity vs i 1)) (entity vs i 1) one
+  two = lower (has (row rows j) (entity rows i 1)) (entity rows i 1) one
 
-  lowest-le : (lowest vs top i j ≤ two) × ((two ≤ one) × (one ≤ top))
-  unfolding lowest
-  lowest-le = (lower-le _ _ _, (lower-le _ _ _, lower-le _ _ _))
+  abbrev third : ℕ
+  third = lower (has (row rows j) (entity rows i 2)) (entity rows i 2) two
 
-  -- no vertex below it is shared
-  lowest-before : (k : ℕ) → k < lowest vs top i j → has vs i k and has vs j k ≡ false
+  lowest-le : (lowest rows top i j ≤ third) × ((third ≤ two) × ((two ≤ one) × (one ≤ top)))
   unfolding lowest
-  lowest-before k l = ⊎-elim (λ h. and-no-right _ _ (⊎-elim first (⊎-elim second third) (has-cases vs i k h))) (λ h. and-no-left _ _ h) (cases (has vs i k))
+  lowest-le = (lower-le _ _ _, (lower-le _ _ _, (lower-le _ _ _, lower-le _ _ _)))
+
+  -- no number below it is in both rows
+  lowest-apart : (k : ℕ) → k < lowest rows top i j → has (row rows i) k and has (row rows j) k ≡ false
+  unfolding lowest
+  lowest-apart k l =
+      ⊎-elim (λ h. and-no-right _ _ (⊎-elim at-0 (⊎-elim at-1 (⊎-elim at-2 at-3)) (row-cases rows i k h))) (λ h. and-no-left _ _ h) (cases (has (row rows i) k))
     where
-      le : (lowest vs top i j ≤ two) × ((two ≤ one) × (one ≤ top))
+      le : (lowest rows top i j ≤ third) × ((third ≤ two) × ((two ≤ one) × (one ≤ top)))
       le = lowest-le
 
-      first : entity vs i 0 ≡ k → has vs j k ≡ false
-      first e = subst (λ (x : ℕ). has vs j x ≡ false) e (lower-before (has vs j (entity vs i 0)) (entity vs i 0) top (omega (arith, le)))
+      at-0 : entity rows i 0 ≡ k → has (row rows j) k ≡ false
+      at-0 e = subst (λ (x : ℕ). has (row rows j) x ≡ false) e (lower-before (has (row rows j) (entity rows i 0)) (entity rows i 0) top (omega (arith, le)))
 
-      second : entity vs i 1 ≡ k → has vs j k ≡ false
-      second e = subst (λ (x : ℕ). has vs j x ≡ false) e (lower-before (has vs j (entity vs i 1)) (entity vs i 1) one (omega (arith, le)))
+      at-1 : entity rows i 1 ≡ k → has (row rows j) k ≡ false
+      at-1 e = subst (λ (x : ℕ). has (row rows j) x ≡ false) e (lower-before (has (row rows j) (entity rows i 1)) (entity rows i 1) one (omega (arith, le)))
 
-      third : entity vs i 2 ≡ k → has vs j k ≡ false
-      third e = subst (λ (x : ℕ). has vs j x ≡ false) e (lower-before (has vs j (entity vs i 2)) (entity vs i 2) two (omega (arith, l)))
+      at-2 : entity rows i 2 ≡ k → has (row rows j) k ≡ false
+      at-2 e = subst (λ (x : ℕ). has (row rows j) x ≡ false) e (lower-before (has (row rows j) (entity rows i 2)) (entity rows i 2) two (omega (arith, le)))
 
-  -- it is shared
-  shared-at : (p x : ℕ) → p < 3 → has vs j (entity vs i p) ≡ true → x ≡ entity vs i p → has vs i x and has vs j x ≡ true
-  shared-at p x h b e = subst (λ (y : ℕ). has vs i y and has vs j y ≡ true) (sym e) (and-both _ _ (has-at vs i p _ h refl) b)
+      at-3 : entity rows i 3 ≡ k → has (row rows j) k ≡ false
+      at-3 e = subst (λ (x : ℕ). has (row rows j) x ≡ false) e (lower-before (has (row rows j) (entity rows i 3)) (entity rows i 3) third (omega (arith, l)))
 
-  lowest-here : lowest vs top i j < top → has vs i (lowest vs top i j) and has vs j (lowest vs top i j) ≡ true
+  -- it is in both
+  shared-at : (p x : ℕ) → p < 4 → has (row rows j) (entity rows i p) ≡ true → x ≡ entity rows i p → has (row rows i) x and has (row rows j) x ≡ true
+  shared-at p x h b e = subst (λ (y : ℕ). has (row rows i) y and has (row rows j) y ≡ true) (sym e) (and-both _ _ (row-has rows i p _ h refl) b)
+
+  lowest-both : lowest rows top i j < top → has (row rows i) (lowest rows top i j) and has (row rows j) (lowest rows top i j) ≡ true
   unfolding lowest
-  lowest-here l =
-      ⊎-elim (λ h. shared-at 2 _ (omega arith) (h .0) (h .1))
-      (λ e. ⊎-elim (λ h. shared-at 1 _ (omega arith) (h .0) (e ∙ h .1))
-      (λ f. ⊎-elim (λ h. shared-at 0 _ (omega arith) (h .0) (e ∙ f ∙ h .1)) (λ g. absurd (omega arith)) (lower-is (has vs j (entity vs i 0)) (entity vs i 0) top))
-      (lower-is (has vs j (entity vs i 1)) (entity vs i 1) one))
-      (lower-is (has vs j (entity vs i 2)) (entity vs i 2) two)
+  lowest-both l =
+      ⊎-elim (λ h. shared-at 3 _ (omega arith) (h .0) (h .1))
+      (λ d. ⊎-elim (λ h. shared-at 2 _ (omega arith) (h .0) (d ∙ h .1))
+      (λ e. ⊎-elim (λ h. shared-at 1 _ (omega arith) (h .0) (d ∙ e ∙ h .1))
+      (λ f. ⊎-elim (λ h. shared-at 0 _ (omega arith) (h .0) (d ∙ e ∙ f ∙ h .1)) (λ g. absurd (omega arith)) (lower-is (has (row rows j) (entity rows i 0)) (entity rows i 0) top))
+      (lower-is (has (row rows j) (entity rows i 1)) (entity rows i 1) one))
+      (lower-is (has (row rows j) (entity rows i 2)) (entity rows i 2) two))
+      (lower-is (has (row rows j) (entity rows i 3)) (entity rows i 3) third)
 
-  pub smallest-is : smallestIn vs top i j ≡ lowest vs top i j
+  -- a number below top is in a row exactly where it is in its cell
+  cells-have : (k : ℕ) → k < top → has (cellIn top rows i) k and has (cellIn top rows j) k ≡ has (row rows i) k and has (row rows j) k
+  cells-have k l = sym (ap₂ _and_ (has-row top rows i k (λ e. omega arith)) (has-row top rows j k (λ e. omega arith)))
+
+  smallest-is : smallestIn top rows i j ≡ lowest rows top i j
   unfolding smallestShared
-  smallest-is = least-is top (λ x. has vs i x and has vs j x) (lowest vs top i j) (omega (arith, lowest-le)) lowest-before lowest-here
+  smallest-is =
+      least-is top (λ x. has (cellIn top rows i) x and has (cellIn top rows j) x) (lowest rows top i j) (omega (arith, lowest-le))
+      (λ k l. cells-have k (omega (arith, lowest-le)) ∙ lowest-apart k l) (λ l. cells-have _ l ∙ lowest-both l)
 
-  -- as three calls find it
-  pub smallest-by : {f g h : Bool} {x y z l m r : ℕ}
-      → f ≡ has vs j (getD vs (3 * i) 0) → x ≡ getD vs (3 * i) 0 → l ≡ lower f x top
-      → g ≡ has vs j (entity vs i 1) → y ≡ entity vs i 1 → m ≡ lower g y l
-      → h ≡ has vs j (entity vs i 2) → z ≡ entity vs i 2 → r ≡ lower h z m → r ≡ smallestIn vs top i j
+  -- as four calls find it
+  pub smallest-by : {f g h d : Bool} {x y z w l m n r : ℕ}
+      → f ≡ has (row rows j) (getD rows (4 * i) 0) → x ≡ getD rows (4 * i) 0 → l ≡ lower f x top
+      → g ≡ has (row rows j) (entity rows i 1) → y ≡ entity rows i 1 → m ≡ lower g y l
+      → h ≡ has (row rows j) (entity rows i 2) → z ≡ entity rows i 2 → n ≡ lower h z m
+      → d ≡ has (row rows j) (entity rows i 3) → w ≡ entity rows i 3 → r ≡ lower d w n → r ≡ smallestIn top rows i j
   unfolding lowest
-  smallest-by e0 e1 e2 e3 e4 e5 e6 e7 e8 = rw (smallest-is, e8, e7, e6, e5, e4, e3, e2, e1, e0, first-of vs i)
+  smallest-by e0 e1 e2 e3 e4 e5 e6 e7 e8 e9 e10 e11 = rw (smallest-is, e11, e10, e9, e8, e7, e6, e5, e4, e3, e2, e1, e0, first-of rows i)

@@ -1,4 +1,7 @@
-// Touching pairs (`get_pairs_if_smallest`): the pattern of two cells, their smallest shared vertex, and check 7.
+// Touching pairs (`get_pairs_if_smallest`): the pattern of two cells, their smallest shared vertex, and check 7. The cells are read from rows, four numbers a
+// cell: the fourth of a triangle is `none`, the number of no vertex.
+mod shared; // shared.rt: cells of any kinds
+
 use cell_pairs::NO_PATTERN;
 use cells_by_key::by_key;
 use cells_by_key::part_of;
@@ -6,31 +9,41 @@ use grid::MOST_CELLS;
 use grid::MOST_VERTICES;
 use grid::has_entity;
 use numbers::wide;
+use shared::cells_pattern;
+use shared::cells_right;
 ghost use mathlib.Core.Path.{_≡_};
 ghost use mathlib.Core.Bool.{true};
 ghost use Prim.Native.Nat.{ℕ, _+_, _*_, _/_, _^_, _≤_, _<_};
 ghost use lib.ListN.{length, getD};
+ghost use lib.Dec.{eqb};
+ghost use Rattle.lists.specs.Bool.{_and_};
 ghost use Rattle.lists.specs.Bounded.{all};
+ghost use Rattle.grid.specs.Cells.{distinct, has};
+ghost use Rattle.grid.specs.Rows.{entity, cellIn};
+ghost use Rattle.grid.specs.RowsFacts.{Padded};
 ghost use Rattle.grid.specs.Mesh.{mostCells, mostVertices};
 ghost use Rattle.cells_by_key.specs.Groups.{Cells, Cut, Below, Zeros, part};
-ghost use Rattle.cell_pairs.specs.Patterns.{patternOf};
-ghost use Rattle.cell_pairs.specs.MatchesFacts.{matchesAt, Places};
-ghost use Rattle.cell_patterns.specs.Flat.{distinctIn, placeIn, patternIn, smallestIn, pairRight, patternsIn};
+ghost use Rattle.cell_pairs.specs.Patterns.{cellsPattern};
+ghost use Rattle.cell_pairs.specs.Table.{pattern, numberOf};
+ghost use Rattle.cell_pairs.specs.MatchesFacts.{place, matchesAt, Places};
+ghost use Rattle.cell_patterns.specs.Flat.{distinctIn, three, patternIn, smallestIn, cellsRight, pairRight, patternsIn};
 ghost use Rattle.cell_patterns.specs.PatternFacts.{threePattern, Apart, groupRight, lower};
 
-// The place of the vertex x in a cell, 3 where it has none.
-fn place_of(vertices: &[u32], cell: usize, x: u32) -> u32
-    requires { ⌜ 3 * cell + 3 ≤ length (now vertices) ⌝ }
-    ensures { λ r. ⌜ r ≡ placeIn (now (vertices .entry)) cell x ⌝ }
+// ---- two triangles
+
+// The place of the vertex x in a triangle, 3 where it has none.
+fn place_of(rows: &[u32], cell: usize, x: u32) -> u32
+    requires { ⌜ 4 * cell + 4 ≤ length (now rows) ⌝ }
+    ensures { λ r. ⌜ r ≡ place (three (now (rows .entry)) cell) x ⌝ }
 {
-    let at = 3 * cell;
-    if vertices[at] == x {
+    let at = 4 * cell;
+    if rows[at] == x {
         return 0;
     }
-    if vertices[at + 1] == x {
+    if rows[at + 1] == x {
         return 1;
     }
-    if vertices[at + 2] == x {
+    if rows[at + 2] == x {
         return 2;
     }
     3
@@ -47,11 +60,11 @@ fn all_three(a: u32, b: u32, c: u32) -> u32
     }
 }
 
-// The pattern of cells whose trial vertices 0, 1 and 2 have the test places a, b and c, 3 for one that is not shared. A case is these three, two bits each, and
+// The pattern of triangles whose trial vertices 0, 1 and 2 have the test places a, b and c, 3 for one that is not shared. A case is these three, two bits each, and
 // beside it stands its list of (test place, trial place).
 fn pattern_at(a: u32, b: u32, c: u32) -> u32
     requires { ⌜ Places a b c ⌝ }
-    ensures { λ r. ⌜ r ≡ patternOf (matchesAt a b c) ⌝ }
+    ensures { λ r. ⌜ r ≡ numberOf (pattern 3 3 (matchesAt a b c)) ⌝ }
 {
     match 16 * a + 4 * b + c {
         0b00_11_11 => 0, // (0,0)
@@ -85,17 +98,85 @@ fn pattern_at(a: u32, b: u32, c: u32) -> u32
     }
 }
 
-// The pattern of test cell i and trial cell j, NO_PATTERN where it is none of the list. No cell may have a vertex twice.
-pub fn pattern_of(vertices: &[u32], i: usize, j: usize) -> u32
-    requires { ⌜ (3 * i + 3 ≤ length (now vertices)) × (3 * j + 3 ≤ length (now vertices)) ⌝ }
-    requires { ⌜ (distinctIn (now vertices) i ≡ true) × (distinctIn (now vertices) j ≡ true) ⌝ }
-    ensures { λ r. ⌜ r ≡ patternIn (now (vertices .entry)) i j ⌝ }
+// The pattern of triangles i and j, NO_PATTERN where it is none of the table. Neither may have a vertex twice.
+fn triangles_pattern(rows: &[u32], i: usize, j: usize) -> u32
+    requires { ⌜ (4 * i + 4 ≤ length (now rows)) × (4 * j + 4 ≤ length (now rows)) ⌝ }
+    requires { ⌜ (distinct (three (now rows) i) ≡ true) × (distinct (three (now rows) j) ≡ true) ⌝ }
+    ensures { λ r. ⌜ r ≡ cellsPattern (three (now (rows .entry)) i) (three (now (rows .entry)) j) ⌝ }
 {
-    let at = 3 * j;
-    let a = place_of(vertices, i, vertices[at]);
-    let b = place_of(vertices, i, vertices[at + 1]);
-    let c = place_of(vertices, i, vertices[at + 2]);
+    let at = 4 * j;
+    let a = place_of(rows, i, rows[at]);
+    let b = place_of(rows, i, rows[at + 1]);
+    let c = place_of(rows, i, rows[at + 2]);
     pattern_at(a, b, c)
+}
+
+// Whether x is a vertex of triangle i.
+fn has_vertex(rows: &[u32], i: usize, x: u32) -> bool
+    requires { ⌜ 4 * i + 4 ≤ length (now rows) ⌝ }
+    ensures { λ r. ⌜ r ≡ has (three (now (rows .entry)) i) x ⌝ }
+{
+    let at = 4 * i;
+    (rows[at] == x) | (rows[at + 1] == x) | (rows[at + 2] == x)
+}
+
+// Check 7 of triangles i and j: the lists of two that share three vertices must be the same.
+fn triangles_right(rows: &[u32], i: usize, j: usize) -> bool
+    requires { ⌜ (4 * i + 4 ≤ length (now rows)) × (4 * j + 4 ≤ length (now rows)) ⌝ }
+    requires { ⌜ (distinct (three (now rows) i) ≡ true) × (distinct (three (now rows) j) ≡ true) ⌝ }
+    ensures { λ r. ⌜ r ≡ cellsRight (three (now (rows .entry)) i) (three (now (rows .entry)) j) ⌝ }
+{
+    let at = 4 * j;
+    let x = rows[at];
+    if !has_vertex(rows, i, x) {
+        return true;
+    }
+    let y = rows[at + 1];
+    if !has_vertex(rows, i, y) {
+        return true;
+    }
+    let z = rows[at + 2];
+    if !has_vertex(rows, i, z) {
+        return true;
+    }
+    let own = 4 * i;
+    (rows[own] == x) & (rows[own + 1] == y) & (rows[own + 2] == z)
+}
+
+// ---- rows
+
+// Whether cells i and j are both triangles.
+fn both_triangles(rows: &[u32], none: u32, i: usize, j: usize) -> bool
+    requires { ⌜ (4 * i + 4 ≤ length (now rows)) × (4 * j + 4 ≤ length (now rows)) ⌝ }
+    ensures { λ r. ⌜ r ≡ (eqb (entity (now (rows .entry)) i 3) none and eqb (entity (now (rows .entry)) j 3) none) ⌝ }
+{
+    (rows[4 * i + 3] == none) & (rows[4 * j + 3] == none)
+}
+
+// The vertices of a cell.
+fn cell_of<'a>(rows: &'a [u32], none: u32, i: usize) -> &'a [u32]
+    requires { ⌜ 4 * i + 4 ≤ length (now rows) ⌝ }
+    ensures { λ r. ⌜ now r ≡ cellIn none (now (rows .entry)) i ⌝ }
+{
+    let at = 4 * i;
+    if rows[at + 3] == none {
+        &rows[at..at + 3]
+    } else {
+        &rows[at..at + 4]
+    }
+}
+
+// The pattern of test cell i and trial cell j, NO_PATTERN where it is none of the table. No cell may have a vertex twice.
+pub fn pattern_of(rows: &[u32], none: u32, i: usize, j: usize) -> u32
+    requires { ⌜ (4 * i + 4 ≤ length (now rows)) × (4 * j + 4 ≤ length (now rows)) ⌝ }
+    requires { ⌜ (distinctIn none (now rows) i ≡ true) × (distinctIn none (now rows) j ≡ true) ⌝ }
+    ensures { λ r. ⌜ r ≡ patternIn none (now (rows .entry)) i j ⌝ }
+{
+    if both_triangles(rows, none, i, j) {
+        triangles_pattern(rows, i, j)
+    } else {
+        cells_pattern(cell_of(rows, none, i), cell_of(rows, none, j))
+    }
 }
 
 // x if it counts and is below m, else m.
@@ -105,52 +186,47 @@ fn lower_of(counts: bool, x: usize, m: usize) -> usize
     if counts & (x < m) { x } else { m }
 }
 
-// The smallest vertex, below top, that cells i and j share; top where they share none.
-pub fn smallest_shared(vertices: &[u32], top: usize, i: usize, j: usize) -> usize
-    requires { ⌜ (3 * i + 3 ≤ length (now vertices)) × (3 * j + 3 ≤ length (now vertices)) ⌝ }
-    ensures { λ r. ⌜ r ≡ smallestIn (now (vertices .entry)) top i j ⌝ }
+// The smallest vertex, below top, that cells i and j share; top where they share none. The fourth number of a triangle is top, which is no lower than what is
+// found before it.
+pub fn smallest_shared(rows: &[u32], top: usize, i: usize, j: usize) -> usize
+    requires { ⌜ (4 * i + 4 ≤ length (now rows)) × (4 * j + 4 ≤ length (now rows)) ⌝ }
+    ensures { λ r. ⌜ r ≡ smallestIn top (now (rows .entry)) i j ⌝ }
 {
-    let at = 3 * i;
-    let x = vertices[at];
-    let y = vertices[at + 1];
-    let z = vertices[at + 2];
-    let l = lower_of(has_entity(vertices, j, x), wide(x), top);
-    let m = lower_of(has_entity(vertices, j, y), wide(y), l);
-    lower_of(has_entity(vertices, j, z), wide(z), m)
+    let at = 4 * i;
+    let x = rows[at];
+    let y = rows[at + 1];
+    let z = rows[at + 2];
+    let w = rows[at + 3];
+    let l = lower_of(has_entity(rows, j, x), wide(x), top);
+    let m = lower_of(has_entity(rows, j, y), wide(y), l);
+    let n = lower_of(has_entity(rows, j, z), wide(z), m);
+    lower_of(has_entity(rows, j, w), wide(w), n)
 }
 
-// Whether cells i and j share no vertex or have a pattern: the lists of two cells that share three vertices must be the same.
-fn pair_right(vertices: &[u32], i: usize, j: usize) -> bool
-    requires { ⌜ (3 * i + 3 ≤ length (now vertices)) × (3 * j + 3 ≤ length (now vertices)) ⌝ }
-    requires { ⌜ (distinctIn (now vertices) i ≡ true) × (distinctIn (now vertices) j ≡ true) ⌝ }
-    ensures { λ r. ⌜ r ≡ pairRight (now (vertices .entry)) i j ⌝ }
+// ---- check 7
+
+// Whether cells i and j share no vertex or have a pattern.
+fn pair_right(rows: &[u32], none: u32, i: usize, j: usize) -> bool
+    requires { ⌜ (4 * i + 4 ≤ length (now rows)) × (4 * j + 4 ≤ length (now rows)) ⌝ }
+    requires { ⌜ (distinctIn none (now rows) i ≡ true) × (distinctIn none (now rows) j ≡ true) ⌝ }
+    ensures { λ r. ⌜ r ≡ pairRight none (now (rows .entry)) i j ⌝ }
 {
-    let at = 3 * j;
-    let x = vertices[at];
-    if !has_entity(vertices, i, x) {
-        return true;
+    if both_triangles(rows, none, i, j) {
+        triangles_right(rows, i, j)
+    } else {
+        cells_right(cell_of(rows, none, i), cell_of(rows, none, j))
     }
-    let y = vertices[at + 1];
-    if !has_entity(vertices, i, y) {
-        return true;
-    }
-    let z = vertices[at + 2];
-    if !has_entity(vertices, i, z) {
-        return true;
-    }
-    let own = 3 * i;
-    (vertices[own] == x) & (vertices[own + 1] == y) & (vertices[own + 2] == z)
 }
 
 // Check 7 of test cell i against the cells of a list.
-fn row_right(vertices: &[u32], cells: &[u32], i: usize) -> bool
-    requires { ⌜ Cells (now vertices) (now cells) ⌝ }
-    requires { ⌜ Apart (now vertices) ⌝ }
-    requires { ⌜ 3 * i + 3 ≤ length (now vertices) ⌝ }
-    ensures { λ r. ⌜ r ≡ all (length (now (cells .entry))) (λ k. pairRight (now (vertices .entry)) i (getD (now (cells .entry)) k 0)) ⌝ }
+fn row_right(rows: &[u32], none: u32, cells: &[u32], i: usize) -> bool
+    requires { ⌜ Cells (now rows) (now cells) ⌝ }
+    requires { ⌜ Apart none (now rows) ⌝ }
+    requires { ⌜ 4 * i + 4 ≤ length (now rows) ⌝ }
+    ensures { λ r. ⌜ r ≡ all (length (now (cells .entry))) (λ k. pairRight none (now (rows .entry)) i (getD (now (cells .entry)) k 0)) ⌝ }
 {
     for k in 0..cells.len() {
-        if !pair_right(vertices, i, wide(cells[k])) {
+        if !pair_right(rows, none, i, wide(cells[k])) {
             return false;
         }
     }
@@ -158,13 +234,13 @@ fn row_right(vertices: &[u32], cells: &[u32], i: usize) -> bool
 }
 
 // Check 7 of the cells of a list against each other.
-fn group_right(vertices: &[u32], cells: &[u32]) -> bool
-    requires { ⌜ Cells (now vertices) (now cells) ⌝ }
-    requires { ⌜ Apart (now vertices) ⌝ }
-    ensures { λ r. ⌜ r ≡ groupRight (now (vertices .entry)) (now (cells .entry)) ⌝ }
+fn group_right(rows: &[u32], none: u32, cells: &[u32]) -> bool
+    requires { ⌜ Cells (now rows) (now cells) ⌝ }
+    requires { ⌜ Apart none (now rows) ⌝ }
+    ensures { λ r. ⌜ r ≡ groupRight none (now (rows .entry)) (now (cells .entry)) ⌝ }
 {
     for k in 0..cells.len() {
-        if !row_right(vertices, cells, wide(cells[k])) {
+        if !row_right(rows, none, cells, wide(cells[k])) {
             return false;
         }
     }
@@ -172,40 +248,44 @@ fn group_right(vertices: &[u32], cells: &[u32]) -> bool
 }
 
 // Check 7 of the cells at each vertex. `order` holds the cells at vertex 0, then those at vertex 1 and so on, and `ends` where each vertex's end.
-fn groups_right(vertices: &[u32], order: &[u32], ends: &[usize]) -> bool
-    requires { ⌜ Cut (now vertices) (now order) (now ends) ⌝ }
-    requires { ⌜ Apart (now vertices) ⌝ }
-    ensures { λ r. ⌜ r ≡ all (length (now (ends .entry))) (λ v. groupRight (now (vertices .entry)) (part (now (order .entry)) (now (ends .entry)) v)) ⌝ }
+fn groups_right(rows: &[u32], none: u32, order: &[u32], ends: &[usize]) -> bool
+    requires { ⌜ Cut (now rows) (now order) (now ends) ⌝ }
+    requires { ⌜ Apart none (now rows) ⌝ }
+    requires { ⌜ none ≤ length (now ends) ⌝ }
+    ensures { λ r. ⌜ r ≡ all none (λ v. groupRight none (now (rows .entry)) (part (now (order .entry)) (now (ends .entry)) v)) ⌝ }
 {
-    for v in 0..ends.len() {
-        if !group_right(vertices, part_of(order, ends, v)) {
+    for v in 0..wide(none) {
+        if !group_right(rows, none, part_of(order, ends, v)) {
             return false;
         }
     }
     true
 }
 
-// Check 7, by way of two lists: the cells by vertex and where each vertex's end.
-fn sorted_right(vertices: &[u32], order: &mut [u32], ends: &mut [usize]) -> bool
-    requires { ⌜ Below (now vertices) (length (now ends)) ⌝ }
+// Check 7, by way of two lists: the cells by vertex and where each vertex's end, last those of `none`.
+fn sorted_right(rows: &[u32], none: u32, order: &mut [u32], ends: &mut [usize]) -> bool
+    requires { ⌜ Below (now rows) (length (now ends)) ⌝ }
     requires { ⌜ Zeros (now ends) ⌝ }
-    requires { ⌜ (length (now vertices) ≡ 3 * (length (now vertices) / 3)) × (length (now vertices) < 2 ^ 32) × (length (now order) ≡ length (now vertices)) ⌝ }
-    requires { ⌜ Apart (now vertices) ⌝ }
-    ensures { λ r. ⌜ r ≡ patternsIn (length (now (vertices .entry)) / 3) (now (vertices .entry)) ⌝ }
+    requires { ⌜ (length (now rows) ≡ 4 * (length (now rows) / 4)) × (length (now rows) < 2 ^ 32) × (length (now order) ≡ length (now rows)) × (length (now ends) ≡ none + 1) ⌝ }
+    requires { ⌜ Apart none (now rows) ⌝ }
+    requires { ⌜ Padded none (now rows) ⌝ }
+    ensures { λ r. ⌜ r ≡ patternsIn none (length (now (rows .entry)) / 4) (now (rows .entry)) ⌝ }
 {
-    by_key(vertices, 3, ends, order);
-    groups_right(vertices, order, ends)
+    by_key(rows, 4, ends, order);
+    groups_right(rows, none, order, ends)
 }
 
-// Check 7: each ordered pair of cells that shares a vertex has a pattern of the list. The vertices of the cells are below top.
-pub fn patterns_right(cells: usize, top: usize, vertices: &[u32]) -> bool
-    requires { ⌜ (length (now vertices) ≡ 3 * cells) × (cells ≤ mostCells) × (top ≤ mostVertices) ⌝ }
-    requires { ⌜ Below (now vertices) top ⌝ }
-    requires { ⌜ ((k : ℕ) → k < cells → distinctIn (now vertices) k ≡ true) ⌝ }
-    ensures { λ r. ⌜ r ≡ patternsIn cells (now (vertices .entry)) ⌝ }
+// Check 7: each ordered pair of cells that shares a vertex has a pattern of the table. The vertices of the cells are below top, which stands in the fourth place of
+// a triangle.
+pub fn patterns_right(cells: usize, top: usize, rows: &[u32]) -> bool
+    requires { ⌜ (length (now rows) ≡ 4 * cells) × (cells ≤ mostCells) × (top ≤ mostVertices) ⌝ }
+    requires { ⌜ Below (now rows) (top + 1) ⌝ }
+    requires { ⌜ Padded top (now rows) ⌝ }
+    requires { ⌜ ((k : ℕ) → k < cells → distinctIn top (now rows) k ≡ true) ⌝ }
+    ensures { λ r. ⌜ r ≡ patternsIn top cells (now (rows .entry)) ⌝ }
 {
-    let n = 3 * cells;
-    let mut order = [0u32; 3 * MOST_CELLS];
-    let mut ends = [0usize; MOST_VERTICES];
-    sorted_right(vertices, &mut order[..n], &mut ends[..top])
+    let n = 4 * cells;
+    let mut order = [0u32; 4 * MOST_CELLS];
+    let mut ends = [0usize; MOST_VERTICES + 1];
+    sorted_right(rows, top as u32, &mut order[..n], &mut ends[..top + 1])
 }

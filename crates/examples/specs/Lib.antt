@@ -7,9 +7,9 @@ use Rattle.dof_numbering.specs.Examples.{M1-dofs, M2-dofs, M2-owners, M2-count,
 use Rattle.integrands.specs.Examples.{F3, F4, F3-holds, F4-holds, double, normals, factor, two, one, double-holds, normals-hold, factor-holds, two-holds, one-holds}
 use Rattle.lent_numbers.specs.Examples.{F1, F2, F1-rounded, F2-rounded, F1-holds, F2-holds, F1-rounded-holds, F2-rounded-holds, two-points, four-pairs, point-order, two-points-hold, four-pairs-hold, point-order-holds}
 use Rattle.scatter.specs.Examples.{added, rows-columns, values, added-holds, rows-columns-hold, values-hold}
-use Rattle.cell_pairs.specs.Examples.{M4-records, M5-records, M7-records, M4-records-holds, M5-records-holds, M7-records-holds, patterns, patterns-hold, mixed-records, mixed-records-holds}
-use Rattle.plans.specs.Examples.{M-planned, M-sizes, M6, M7, M7-work, M8, work-lists, first-fault, M-planned-holds, M-sizes-holds, M6-holds, M7-holds, M7-work-holds, M8-holds, work-lists-hold, first-fault-holds}
-use Rattle.runs.specs.Examples.{first-look, looks-answered, adds-answered, first-look-holds, looks-answered-hold, adds-answered-hold}
+use Rattle.cell_pairs.specs.Examples.{M4-records, M5-records, M7-records, M4-records-holds, M5-records-holds, M7-records-holds, patterns, patterns-hold, mixed-records, mixed-records-holds, quad-patterns, edge-shared-records, edge-shared-counts, diagonal-refused, quad-patterns-hold, edge-shared-records-hold, edge-shared-counts-hold, diagonal-refused-holds}
+use Rattle.plans.specs.Examples.{M-planned, M-sizes, M6, M7, M7-work, M8, work-lists, first-fault, M-planned-holds, M-sizes-holds, M6-holds, M7-holds, M7-work-holds, M8-holds, work-lists-hold, first-fault-holds, quads-planned, kinds-refused, elements-refused, five-numbers, edge-shared-lists, quads-planned-hold, kinds-refused-hold, elements-refused-hold, five-numbers-hold, edge-shared-lists-hold}
+use Rattle.runs.specs.Examples.{first-look, looks-answered, adds-answered, first-look-holds, looks-answered-hold, adds-answered-hold, mixed-looked, mixed-places, mixed-entered, absent-unread, mixed-looked-holds, mixed-places-hold, mixed-entered-holds, absent-unread-holds}
 use Rattle.job.specs.Examples.{M4-read, M4-lists, read-numbers, M4-read-holds, M4-lists-hold, read-numbers-hold}
 use Rattle.worklist_text.specs.Examples.{M4, M5, M7-twice-text, refused-texts, M4-holds, M5-holds, M7-twice-text-holds, refused-texts-hold}
 
@@ -48,17 +48,22 @@ theorem =
     and-also no-more
 
 -- and some beside them, for what these leave untouched: M4, M5 and M7 as records, M accepted, with its rows and columns, M7 and M8 as text, jobs cut short,
--- longer and too large, what reading a job answers and writes; owner records, a DOF count, colours by edges, two DOFs on an entity; numbers, owners, colours and distant pairs of quads beside triangles; the plus 1 of a pattern and
--- its i and j; kinds 1 and 4, a factor, two terms; sums in which rounding shows, and ones of several points and basis functions; where local entries go, and in
--- which order; work lists as planning leaves them, the first of several faults, record 0 looked at, and what look and the adds answer to runs and plans that no
--- planning gave
+-- longer and too large, what reading a job answers and writes; owner records, a DOF count, colours by edges, two DOFs on an entity; numbers, owners, colours
+-- and distant pairs of quads beside triangles; the plus 1 of a pattern and its i and j; patterns, touching records and touching pairs of quads beside
+-- triangles, and two quads at a diagonal; kinds 1 and 4, a factor, two terms; sums in which rounding shows, and ones of several points and basis functions;
+-- where local entries go, and in which order; work lists as planning leaves them, the first of several faults; meshes with quads, kind lists and elements of
+-- both kinds, planned, with numbers and lists; record 0 looked at, and what look and the adds answer to runs and plans that no planning gave; a run over both
+-- kinds: what look and the entries call answer, and where its entries stand
 abbrev pub more : List Example
 more =
     M4-records ∷ M5-records ∷ M7-records ∷ M-planned ∷ M-sizes ∷ M7-twice-text ∷ refused-texts ∷ M4-read ∷ M4-lists
     ∷ read-numbers ∷ M2-owners ∷ M2-count ∷ F1-rounded ∷ F2-rounded ∷ by-edges ∷ two-an-edge ∷ two-owners ∷ patterns
     ∷ first-kind ∷ quad-beside ∷ quad-owners ∷ quad-inside ∷ inside-owners ∷ mixed-records
+    ∷ quad-patterns ∷ edge-shared-records ∷ edge-shared-counts ∷ diagonal-refused
     ∷ double ∷ normals ∷ factor ∷ two ∷ one ∷ two-points ∷ four-pairs ∷ point-order ∷ added
-    ∷ rows-columns ∷ values ∷ work-lists ∷ first-fault ∷ first-look ∷ looks-answered ∷ adds-answered ∷ []
+    ∷ rows-columns ∷ values ∷ work-lists ∷ first-fault
+    ∷ quads-planned ∷ kinds-refused ∷ elements-refused ∷ five-numbers ∷ edge-shared-lists
+    ∷ first-look ∷ looks-answered ∷ adds-answered ∷ mixed-looked ∷ mixed-places ∷ mixed-entered ∷ absent-unread ∷ []
 
 pub more-hold : Agree more
 more-hold =
@@ -86,6 +91,10 @@ more-hold =
     and-also quad-inside-holds
     and-also inside-owners-holds
     and-also mixed-records-holds
+    and-also quad-patterns-hold
+    and-also edge-shared-records-hold
+    and-also edge-shared-counts-hold
+    and-also diagonal-refused-holds
     and-also double-holds
     and-also normals-hold
     and-also factor-holds
@@ -99,7 +108,16 @@ more-hold =
     and-also values-hold
     and-also work-lists-hold
     and-also first-fault-holds
+    and-also quads-planned-hold
+    and-also kinds-refused-hold
+    and-also elements-refused-hold
+    and-also five-numbers-hold
+    and-also edge-shared-lists-hold
     and-also first-look-holds
     and-also looks-answered-hold
     and-also adds-answered-hold
+    and-also mixed-looked-holds
+    and-also mixed-places-hold
+    and-also mixed-entered-holds
+    and-also absent-unread-holds
     and-also no-more

@@ -1,6 +1,6 @@
 -- The colours (`cell_colouring`). Cells rise; each takes the smallest colour that no earlier cell sharing an entity of the dimension has.
 -- Assumes nothing.
-use Prim.Native.Nat.{ℕ, zero, suc, max, _*_, _≤_}
+use Prim.Native.Nat.{ℕ, zero, suc, max, _+_, _*_, _≤_}
 use mathlib.Core.Bool.{Bool, not, cond}
 use mathlib.Core.Path.{_≡_}
 use mathlib.Core.List.{List, [], _∷_, _++_}
@@ -9,6 +9,7 @@ use lib.Dec.{eqb, ltb}
 use Rattle.lists.specs.Bool.{_and_}
 use Rattle.lists.specs.Bounded.{some, least}
 use Rattle.grid.specs.Cells.{shareIn}
+use Rattle.grid.specs.CellsFacts.{Shaped}
 use Rattle.grid.specs.Mesh.{mostCells, mostVertices, mostEdges, kindsPresent}
 use Rattle.grid.specs.declared.Sizes.{Sizes}
 use Rattle.cells_by_key.specs.Groups.{Below}
@@ -45,18 +46,20 @@ unfoldable pub colourCount : List ℕ → ℕ
 colourCount [] = 0
 colourCount (c ∷ cs) = max (suc c) (colourCount cs)
 
--- what `cell_colouring` asks of its lists: three numbers a cell, each below the number of vertices or of edges, and one place for each colour
-pub record Colourable (s : Sizes) (vertices edges colours : List ℕ) : Type 0 where
+-- what `cell_colouring` asks of its lists: the own numbers of each cell, each below the number of vertices or of edges, and one place for each colour
+pub record Colourable (s : Sizes) (kinds vertices edges colours : List ℕ) : Type 0 where
   pub cells : s .cells ≤ mostCells
   pub few-vertices : s .vertices ≤ mostVertices
   pub few-edges : s .edges ≤ mostEdges
-  pub vertex-list : length vertices ≡ 3 * s .cells
-  pub edge-list : length edges ≡ 3 * s .cells
+  pub kind-list : length kinds ≡ s .cells
+  pub vertex-list : Shaped kinds vertices
+  pub edge-list : Shaped kinds edges
   pub vertices-below : Below vertices (s .vertices)
   pub edges-below : Below edges (s .edges)
   pub places : length colours ≡ s .cells
 
--- the lists in which it groups the cells: a place for each number of a list, and one for each vertex or edge
-pub record Scratch (order ends : List ℕ) : Type 0 where
-  pub places : length order ≡ 3 * mostCells
-  pub entities : length ends ≡ mostEdges
+-- the lists in which it groups the cells: the rows, a place for each number of a row, and one for each vertex or edge and for no one
+pub record Scratch (rows order ends : List ℕ) : Type 0 where
+  pub numbers : length rows ≡ 4 * mostCells
+  pub places : length order ≡ 4 * mostCells
+  pub entities : length ends ≡ mostEdges + 1

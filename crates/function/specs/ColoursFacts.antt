@@ -6,24 +6,25 @@ use native.Mathlib.Omega.{arith}
 use mathlib.Core.Bool.{Bool, true, false, not, cond}
 use mathlib.Core.Path.{_≡_, refl, sym, ap, subst, _∙_}
 use mathlib.Core.Logic.{⊎-elim}
-use mathlib.Core.List.{List, [], _∷_, _++_}
+use mathlib.Core.List.{List, [], _∷_, _++_, flatMap}
 use lib.ListN.{length, getD, set, take, length-append, List·getD-append, replicate, getD-replicate, length-replicate, length-set}
 use lib.Seq.{sets, getD-at, getD-set-same, getD-set-other, take-suc, take-all}
 use lib.Dec.{eqb, ltb}
 use borrow.Author.Tests.{eq-eqb, ne-eqb, not-true, lt-ltb, le-ltb, ltb-true}
 use Rattle.lists.specs.Bool.{_and_, _or_, true≢false, same-test, and-left, and-right, and-both, and-no-left, or-right}
 use Rattle.lists.specs.Bounded.{some, least, some-not, some-none, some-ext, some-more, some-start, some-at, some-which, least-is, least-le, least-holds, least-ext, eq-or-ne}
+use Rattle.lists.specs.Range.{filter}
 use Rattle.lists.specs.Stores.{sets-more, sets-all, getD-front}
 use Rattle.grid.specs.Cells.{shareIn}
-use Rattle.grid.specs.CellsFacts.{share-which, share-at}
-use Rattle.grid.specs.Shape.{entity, triple, has, share}
-use Rattle.grid.specs.Mesh.{mostCells, mostEdges, triangles, kindsPresent}
-use Rattle.grid.specs.Facts.{has-place, has-at, triangles-share}
-use Rattle.grid.specs.KindsFacts.{triangles-first}
+use Rattle.grid.specs.CellsFacts.{Shaped, has-place, has-at, share-which, share-at}
+use Rattle.grid.specs.Rows.{rowsOf, entity, cellIn, has, share}
+use Rattle.grid.specs.RowsFacts.{Padded, cell-entity, cell-in-row, cell-number, has-row, length-rows, rows-below, rows-padded, share-rows}
+use Rattle.grid.specs.Mesh.{mostCells, mostEdges, cellsOf, kindsPresent}
 use Rattle.grid.specs.declared.Sizes.{Sizes}
 use Rattle.cells_by_key.specs.Groups.{cellsWith, Below}
 use Rattle.cells_by_key.specs.GroupsFacts.{in-group, group-place}
-use Rattle.function.specs.Elements.{elementOf, Space}
+use Rattle.function.specs.declared.Element.{Element}
+use Rattle.function.specs.Elements.{Space}
 use Rattle.function.specs.Colours.{taken, smallest, coloursTo, leading, sharing, colourList, colourCount, Colourable}
 
 -- ---- the colours, one by one
@@ -143,7 +144,7 @@ module _ {i : ℕ} {test : ℕ → Bool} {u v : List ℕ} (h : Marked i test u v
 
   -- what cell i marks of marks of earlier cells
   module _ (low : Marks i u) where
-    pub marks-next : Marks (i + 1) v
+    marks-next : Marks (i + 1) v
     marks-next = record { long = h .long; low = λ c b. rw (h .mark c b) (choice (test c) (getD u c 0) (low .low c b)) }
       where
         choice : (t : Bool) (n : ℕ) → n ≤ i → cond t (i + 1) n ≤ i + 1
@@ -158,10 +159,15 @@ module _ {i : ℕ} {test : ℕ → Bool} {u v : List ℕ} (h : Marked i test u v
         choice false n l = ne-eqb n (i + 1) (λ e. lt-irrefl i (omega arith))
 
 -- the first colour without a mark of cell i is the smallest that is not taken
-pub marks-smallest : (r : ℕ → ℕ → Bool) (cs : List ℕ) {u v : List ℕ} (i : ℕ) → i ≤ mostCells → Marks i u → Marked i (taken r cs i) u v
+marks-smallest : (r : ℕ → ℕ → Bool) (cs : List ℕ) {u v : List ℕ} (i : ℕ) → i ≤ mostCells → Marks i u → Marked i (taken r cs i) u v
     → least i (λ c. not (eqb (getD v c 0) (i + 1))) ≡ smallest r cs i
 unfolding smallest
 marks-smallest r cs {u} {v} i b low h = least-ext i (λ c. not (eqb (getD v c 0) (i + 1))) (λ c. not (taken r cs i c)) (λ c l. ap not (mark-test h low c (omega arith)))
+
+-- so it is the colour of cell i, and the marks are those of one cell more
+pub marks-colour : (r : ℕ → ℕ → Bool) (cs : List ℕ) {u v : List ℕ} (i : ℕ) {x : ℕ} → i ≤ mostCells → Marks i u → Marked i (taken r cs i) u v
+    → x ≡ least i (λ c. not (eqb (getD v c 0) (i + 1))) → (x ≡ smallest r cs i) × Marks (i + 1) v
+marks-colour r cs i b low h e = (e ∙ marks-smallest r cs i b low h, marks-next h low)
 
 -- ---- the colours of a list of cells, marked one cell after the other
 
@@ -190,44 +196,48 @@ module _ (cells cs : List ℕ) (i : ℕ) where
 
 -- c is the colour of a cell below i, of those that have one of the first p entities of cell i
 unfoldable pub sharingTo : List ℕ → List ℕ → ℕ → ℕ → ℕ → Bool
-sharingTo l cs i p c = some p (λ q. colourTo (cellsWith l 3 (entity l i q)) cs i (length (cellsWith l 3 (entity l i q))) c)
+sharingTo l cs i p c = some p (λ q. colourTo (cellsWith l 4 (entity l i q)) cs i (length (cellsWith l 4 (entity l i q))) c)
 
 module _ (l cs : List ℕ) (i : ℕ) where
   pub sharing-start : {u : List ℕ} → length u ≡ mostCells → Marked i (sharingTo l cs i 0) u u
   unfolding sharingTo
   sharing-start e = marked-none (sharingTo l cs i 0) e (λ c. some-start _)
 
-  pub sharing-more : (p : ℕ) {u v w : List ℕ} → Marked i (sharingTo l cs i p) u v → {xs : List ℕ} → xs ≡ cellsWith l 3 (entity l i p)
+  pub sharing-more : (p : ℕ) {u v w : List ℕ} → Marked i (sharingTo l cs i p) u v → {xs : List ℕ} → xs ≡ cellsWith l 4 (entity l i p)
       → Marked i (colourTo xs cs i (length xs)) v w → Marked i (sharingTo l cs i (p + 1)) u w
   unfolding sharingTo
   sharing-more p h e g =
       marked-as (marked-more h g) (sharingTo l cs i (p + 1))
-      (λ c. some-more p (λ q. colourTo (cellsWith l 3 (entity l i q)) cs i (length (cellsWith l 3 (entity l i q))) c) ∙ rw (← e))
+      (λ c. some-more p (λ q. colourTo (cellsWith l 4 (entity l i q)) cs i (length (cellsWith l 4 (entity l i q))) c) ∙ rw (← e))
 
-  -- with all three: an earlier cell shares with cell i exactly where it is one of the cells of an entity of cell i
-  sharing-taken : 3 * i + 3 ≤ length l → (c : ℕ) → taken (share l) cs i c ≡ sharingTo l cs i 3 c
+-- with all numbers of the cell: an earlier cell shares with cell i exactly where it is one of the cells of an entity of cell i
+module _ {none : ℕ} {rows : List ℕ} (pads : Padded none rows) (cs : List ℕ) (i : ℕ) (b : 4 * i + 4 ≤ length rows) where
+  sharing-taken : (c : ℕ) → taken (share none rows) cs i c ≡ sharingTo rows cs i (length (cellIn none rows i)) c
   unfolding sharingTo colourTo taken
-  sharing-taken b c = same-test (taken (share l) cs i c) (sharingTo l cs i 3 c) there back
+  sharing-taken c = same-test (taken (share none rows) cs i c) (sharingTo rows cs i (length (cellIn none rows i)) c) there back
     where
-      there : taken (share l) cs i c ≡ true → sharingTo l cs i 3 c ≡ true
+      there : taken (share none rows) cs i c ≡ true → sharingTo rows cs i (length (cellIn none rows i)) c ≡ true
       there e =
-          let w = some-which i (λ j. share l i j and eqb (getD cs j 0) c) e in
-          let x = share-which (triple l i) (triple l (w .0)) (and-left _ _ (w .2)) in
-          let s = has-place l i (x .0) (x .1) in
-          let g = group-place l (entity l i (s .0)) (w .0) (omega (arith, w .1, b)) (subst (λ (y : ℕ). has l (w .0) y ≡ true) (sym (s .2)) (x .2)) in
-          some-at 3 (λ q. colourTo (cellsWith l 3 (entity l i q)) cs i (length (cellsWith l 3 (entity l i q))) c) (s .0) (s .1)
+          let w = some-which i (λ j. share none rows i j and eqb (getD cs j 0) c) e in
+          let x = share-which (cellIn none rows i) (cellIn none rows (w .0)) (and-left _ _ (w .2)) in
+          let s = has-place (cellIn none rows i) (x .0) (x .1) in
+          let here : entity rows i (s .0) ≡ x .0 = sym (cell-entity none rows i (s .0) (s .1)) ∙ s .2 in
+          let g = group-place rows (entity rows i (s .0)) (w .0) (omega (arith, w .1, b)) (cell-in-row none rows (w .0) _ (subst (λ (y : ℕ). has none rows (w .0) y ≡ true) (sym here) (x .2))) in
+          some-at _ (λ q. colourTo (cellsWith rows 4 (entity rows i q)) cs i (length (cellsWith rows 4 (entity rows i q))) c) (s .0) (s .1)
           (some-at _ _ (g .0) (g .1) (rw (g .2) (and-both _ _ (lt-ltb (w .0) i (w .1)) (and-right _ _ (w .2)))))
 
-      back : sharingTo l cs i 3 c ≡ true → taken (share l) cs i c ≡ true
+      back : sharingTo rows cs i (length (cellIn none rows i)) c ≡ true → taken (share none rows) cs i c ≡ true
       back e =
-          let w = some-which 3 (λ q. colourTo (cellsWith l 3 (entity l i q)) cs i (length (cellsWith l 3 (entity l i q))) c) e in
+          let w = some-which (length (cellIn none rows i)) (λ q. colourTo (cellsWith rows 4 (entity rows i q)) cs i (length (cellsWith rows 4 (entity rows i q))) c) e in
           let v = some-which _ _ (w .2) in
-          let j : ℕ = getD (cellsWith l 3 (entity l i (w .0))) (v .0) 0 in
-          some-at i (λ j. share l i j and eqb (getD cs j 0) c) j (ltb-true j i (and-left _ _ (v .2)))
-          (and-both _ _ (share-at (triple l i) (triple l j) (entity l i (w .0)) (has-at l i (w .0) _ (w .1) refl) (in-group l (entity l i (w .0)) (v .0) (v .1))) (and-right _ _ (v .2)))
+          let x : ℕ = entity rows i (w .0) in
+          let j : ℕ = getD (cellsWith rows 4 x) (v .0) 0 in
+          let theirs : has none rows j x ≡ true = sym (has-row none rows j x (cell-number pads i b (w .0) (w .1))) ∙ in-group rows x (v .0) (v .1) in
+          some-at i (λ j. share none rows i j and eqb (getD cs j 0) c) j (ltb-true j i (and-left _ _ (v .2)))
+          (and-both _ _ (share-at (cellIn none rows i) (cellIn none rows j) x (has-at (cellIn none rows i) (w .0) x (w .1) (cell-entity none rows i (w .0) (w .1))) theirs) (and-right _ _ (v .2)))
 
-  pub sharing-done : {u v : List ℕ} → 3 * i + 3 ≤ length l → Marked i (sharingTo l cs i 3) u v → Marked i (taken (share l) cs i) u v
-  sharing-done b h = marked-as h (taken (share l) cs i) (sharing-taken b)
+  pub sharing-done : {n : ℕ} {u v : List ℕ} → n ≡ length (cellIn none rows i) → Marked i (sharingTo rows cs i n) u v → Marked i (taken (share none rows) cs i) u v
+  sharing-done e h = marked-as h (taken (share none rows) cs i) (λ c. sharing-taken c ∙ ap (λ (n : ℕ). sharingTo rows cs i n c) (sym e))
 
 -- ---- the colour list as it is filled from the front
 
@@ -238,21 +248,19 @@ pub record Earlier (colours : List ℕ) (i : ℕ) : Type 0 where
   pub low : (j : ℕ) → j < i → getD colours j 0 < mostCells
 
 -- what colouring by one list, whose numbers are below top, asks
-pub record Listed (C top : ℕ) (list colours : List ℕ) : Type 0 where
-  pub cells : C ≤ mostCells
+pub record Listed (top : ℕ) (kinds list colours : List ℕ) : Type 0 where
+  pub shaped : Shaped kinds list
   pub groups : top ≤ mostEdges
-  pub entities : length list ≡ 3 * C
   pub below : Below list top
-  pub places : length colours ≡ C
+  pub places : length colours ≡ length kinds
 
 -- by the vertices, and by the edges
-module _ {s : Sizes} {vertices edges colours : List ℕ} (h : Colourable s vertices edges colours) {C top : ℕ} (c : C ≡ s .cells) where
-  pub listed-vertices : top ≡ s .vertices → Listed C top vertices colours
-  listed-vertices t =
-      rw (c, t) (record { cells = h .cells; groups = omega (arith, h .few-vertices); entities = h .vertex-list; below = h .vertices-below; places = h .places })
+module _ {s : Sizes} {kinds vertices edges colours : List ℕ} (h : Colourable s kinds vertices edges colours) where
+  pub listed-vertices : Listed (s .vertices) kinds vertices colours
+  listed-vertices = record { shaped = h .vertex-list; groups = omega (arith, h .few-vertices); below = h .vertices-below; places = h .places ∙ sym (h .kind-list) }
 
-  pub listed-edges : top ≡ s .edges → Listed C top edges colours
-  listed-edges t = rw (c, t) (record { cells = h .cells; groups = h .few-edges; entities = h .edge-list; below = h .edges-below; places = h .places })
+  pub listed-edges : Listed (s .edges) kinds edges colours
+  listed-edges = record { shaped = h .edge-list; groups = h .few-edges; below = h .edges-below; places = h .places ∙ sym (h .kind-list) }
 
 -- what is held before cell i: l with the colours of the first i cells stored
 pub record Filled (r : ℕ → ℕ → Bool) (l cs : List ℕ) (i : ℕ) : Type 0 where
@@ -297,26 +305,48 @@ colours-ext r r′ (suc n) h =
     (ap (λ (c : ℕ). coloursTo r′ n ++ (c ∷ []))
     (least-ext n _ _ (λ c _. ap not (some-ext n _ _ (λ j hj. ap (λ (b : Bool). b and eqb (getD (coloursTo r′ n) j 0) c) (h n j (omega arith) hj))))))
 
-module _ (s : Space) (C : ℕ) (e : s .kinds ≡ triangles C) where
-  by-triangles : (l : List ℕ) → length l ≡ 3 * C → coloursTo (share l) C ≡ coloursTo (shareIn (s .kinds) l) C
-  by-triangles l long = rw e (colours-ext (share l) (shareIn (triangles C) l) C (λ i j hi hj. triangles-share C l long i j hi (omega arith)))
+-- by the rows of one list
+module _ {top : ℕ} {ks l colours : List ℕ} (h : Listed top ks l colours) {rows : List ℕ} (e : rows ≡ rowsOf top ks l (length ks)) where
+  pub listed-length : length rows ≡ 4 * length ks
+  listed-length = ap length e ∙ length-rows top (h .shaped)
 
-  -- the triangle's element leads
-  leads : leading s ≡ s .elements .triangle
-  unfolding elementOf
-  leads = ap (elementOf (s .elements)) (ap (λ (ks : List ℕ). getD (kindsPresent ks) 0 3) e ∙ triangles-first C)
+  pub listed-below : {n : ℕ} → n ≡ top + 1 → Below rows n
+  listed-below q = rw (e, q) (record { below = rows-below top (h .shaped) (h .below .below) })
 
-  pub by-vertices : length (s .cellVertices) ≡ 3 * C → 0 < s .elements .triangle .a → coloursTo (share (s .cellVertices)) C ≡ colourList s C
+  pub listed-padded : Padded top rows
+  listed-padded = rw e (rows-padded top (h .shaped) (h .below .below))
+
+  pub listed-colours : coloursTo (share top rows) (length colours) ≡ coloursTo (shareIn ks l) (length colours)
+  listed-colours =
+      rw e
+      (colours-ext _ _ (length colours) (λ i j hi hj. share-rows top (h .shaped) (h .below .below) i j (omega (arith, h .places)) (omega (arith, h .places))))
+
+module _ (s : Space) (C : ℕ) {e : Element} (lead : e ≡ leading s) where
+  pub by-vertices : 0 < e .a → coloursTo (shareIn (s .kinds) (s .cellVertices)) C ≡ colourList s C
   unfolding colourList
-  by-vertices long a = rw (leads, lt-ltb 0 (s .elements .triangle .a) a) (by-triangles (s .cellVertices) long)
+  by-vertices a = rw (← lead, lt-ltb 0 (e .a) a)
 
-  pub by-edges : length (s .cellEdges) ≡ 3 * C → s .elements .triangle .a ≤ 0 → 0 < s .elements .triangle .b → coloursTo (share (s .cellEdges)) C ≡ colourList s C
+  pub by-edges : e .a ≤ 0 → 0 < e .b → coloursTo (shareIn (s .kinds) (s .cellEdges)) C ≡ colourList s C
   unfolding colourList
-  by-edges long a b = rw (leads, le-ltb 0 (s .elements .triangle .a) a, lt-ltb 0 (s .elements .triangle .b) b) (by-triangles (s .cellEdges) long)
+  by-edges a b = rw (← lead, le-ltb 0 (e .a) a, lt-ltb 0 (e .b) b)
 
-  pub by-none : s .elements .triangle .a ≤ 0 → s .elements .triangle .b ≤ 0 → coloursTo eqb C ≡ colourList s C
+  pub by-none : e .a ≤ 0 → e .b ≤ 0 → coloursTo eqb C ≡ colourList s C
   unfolding colourList
-  by-none a b = rw (leads, le-ltb 0 (s .elements .triangle .a) a, le-ltb 0 (s .elements .triangle .b) b)
+  by-none a b = rw (← lead, le-ltb 0 (e .a) a, le-ltb 0 (e .b) b)
+
+-- the first kind present: 3 where there is a triangle, else 4 where there is a quad
+module _ (ks : List ℕ) where
+  pub first-three : 0 < cellsOf ks 3 → 3 ≡ getD (kindsPresent ks) 0 3
+  unfolding kindsPresent filter flatMap
+  first-three h = rw (lt-ltb 0 (cellsOf ks 3) h)
+
+  pub first-four : cellsOf ks 3 ≤ 0 → 0 < cellsOf ks 4 → 4 ≡ getD (kindsPresent ks) 0 3
+  unfolding kindsPresent filter flatMap
+  first-four t h = rw (le-ltb 0 (cellsOf ks 3) t, lt-ltb 0 (cellsOf ks 4) h)
+
+  pub first-none : cellsOf ks 3 ≤ 0 → cellsOf ks 4 ≤ 0 → 3 ≡ getD (kindsPresent ks) 0 3
+  unfolding kindsPresent filter flatMap
+  first-none t q = rw (le-ltb 0 (cellsOf ks 3) t, le-ltb 0 (cellsOf ks 4) q)
 
 -- what counting asks of the list that is filled
 pub colours-low : (s : Space) (C : ℕ) (cs : List ℕ) → C ≤ mostCells → cs ≡ colourList s C → (i : ℕ) → i < length cs → getD cs i 0 < mostCells

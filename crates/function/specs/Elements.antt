@@ -1,9 +1,9 @@
 -- The elements, one for each kind of cell: local DOFs, and check 4; a function space. Assumes nothing.
 use Prim.Native.Nat.{ℕ, _+_, _*_}
 use mathlib.Core.Bool.{Bool, cond}
-use mathlib.Core.List.{List}
+use mathlib.Core.List.{List, [], _∷_}
 use lib.Dec.{eqb}
-use Rattle.lists.specs.Bool.{_and_}
+use Rattle.lists.specs.Bool.{_and_, _or_, every}
 use Rattle.numbers.specs.Ranges.{within}
 use Rattle.function.specs.declared.Element.{Element}
 use Rattle.function.specs.declared.Elements.{Elements}
@@ -31,9 +31,18 @@ alike e = record { triangle = e; quad = e }
 abbrev pub mostDim : ℕ
 mostDim = 10
 
--- 4, of triangles: both dims are from 1 to 10
-unfoldable pub dimsRight : Element → Element → Bool
-dimsRight test trial = within 1 mostDim (dim test) and within 1 mostDim (dim trial)
+-- 4, of one side of a mesh with so many triangles and quads: the dim of each kind present is from 1 to 10 and, where both are present, a and b are the same
+-- in their elements. The element of a kind that is not present is not read
+unfoldable pub elementsRight : ℕ → ℕ → Elements → Bool
+elementsRight triangles quads es =
+    every ((eqb triangles 0 or within 1 mostDim (cellDim es 3))
+    ∷ (eqb quads 0 or within 1 mostDim (cellDim es 4))
+    ∷ (eqb triangles 0 or eqb quads 0 or (eqb (es .triangle .a) (es .quad .a) and eqb (es .triangle .b) (es .quad .b)))
+    ∷ [])
+
+-- 4: each side by itself
+unfoldable pub dimsRight : ℕ → ℕ → Elements → Elements → Bool
+dimsRight triangles quads test trial = elementsRight triangles quads test and elementsRight triangles quads trial
 
 -- A function space: the kinds of a mesh's cells, its vertex list and its edge list, and the elements on it
 pub record Space : Type 0 where

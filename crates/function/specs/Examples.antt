@@ -7,12 +7,12 @@ use Rattle.grid.specs.Mesh.{triangles}
 use Rattle.grid.specs.Examples.{M, opened-grid}
 use Rattle.function.specs.declared.Element.{Element}
 use Rattle.function.specs.declared.Elements.{Elements}
-use Rattle.function.specs.Elements.{dimOf, elementOf, alike, dimsRight, Space}
+use Rattle.function.specs.Elements.{dimOf, elementOf, elementsRight, alike, dimsRight, Space}
 use Rattle.function.specs.Colours.{taken, smallest, coloursTo, colourList, colourCount}
 
 -- opens the definitions of this crate and of those below it
 unfoldable pub opened-function : Unit {0}
-unfolding opened-grid dimOf elementOf dimsRight taken smallest coloursTo colourList colourCount
+unfolding opened-grid dimOf elementOf elementsRight dimsRight taken smallest coloursTo colourList colourCount
 opened-function = tt
 
 abbrev pub element : ℕ → ℕ → ℕ → Element

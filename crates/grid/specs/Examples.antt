@@ -3,7 +3,7 @@ use mathlib.Core.List.{[], _∷_}
 use lib.ListN.{replicate}
 use Rattle.lists.specs.Examples.{opened-lists}
 use Rattle.grid.specs.Cells.{before, part, has, share, distinct, sameTwo}
-use Rattle.grid.specs.Mesh.{Mesh, triangles, cellsOf, kindsPresent, corners, sides, placesAgree, edgeRule, cellsRight, kindsRight, vertexPlaces, verticesRight, edgesRight}
+use Rattle.grid.specs.Mesh.{Mesh, triangles, cellsOf, kindsPresent, corners, sides, placesAgree, edgeRule, cellsRight, kindsRight, kindsMatch, vertexPlaces, verticesRight, edgesRight}
 use Rattle.numbers.specs.Ranges.{allBelow}
 
 -- M: C = 3, V = 7, E = 8, cells (0,1,2), (1,3,2), (4,5,6), edges (0,1,2), (3,0,4), (5,6,7)
@@ -54,7 +54,69 @@ M8-large =
       cellEdges = replicate 6147 0;
     }
 
+-- ---- with quads
+
+-- a triangle and a quad that share an edge
+abbrev pub edge-shared : Mesh
+edge-shared =
+    record {
+      cells = 2;
+      vertices = 5;
+      edges = 6;
+      kinds = 3 ∷ 4 ∷ [];
+      cellVertices = 0 ∷ 1 ∷ 2 ∷ 1 ∷ 3 ∷ 2 ∷ 4 ∷ [];
+      cellEdges = 0 ∷ 1 ∷ 2 ∷ 3 ∷ 0 ∷ 4 ∷ 5 ∷ [];
+    }
+
+-- a quad first, triangles and quads after it, at edges, at vertices and apart
+abbrev pub five-cells : Mesh
+five-cells =
+    record {
+      cells = 5;
+      vertices = 13;
+      edges = 16;
+      kinds = 4 ∷ 3 ∷ 3 ∷ 4 ∷ 3 ∷ [];
+      cellVertices = 0 ∷ 1 ∷ 2 ∷ 3 ∷ 4 ∷ 1 ∷ 3 ∷ 5 ∷ 6 ∷ 7 ∷ 8 ∷ 9 ∷ 10 ∷ 11 ∷ 7 ∷ 8 ∷ 12 ∷ [];
+      cellEdges = 0 ∷ 1 ∷ 2 ∷ 3 ∷ 2 ∷ 4 ∷ 5 ∷ 6 ∷ 7 ∷ 8 ∷ 9 ∷ 10 ∷ 11 ∷ 12 ∷ 13 ∷ 14 ∷ 15 ∷ [];
+    }
+
+-- two quads that meet only at a diagonal
+abbrev pub diagonal : Mesh
+diagonal =
+    record {
+      cells = 2;
+      vertices = 6;
+      edges = 8;
+      kinds = 4 ∷ 4 ∷ [];
+      cellVertices = 0 ∷ 1 ∷ 2 ∷ 3 ∷ 0 ∷ 4 ∷ 5 ∷ 3 ∷ [];
+      cellEdges = 0 ∷ 1 ∷ 2 ∷ 3 ∷ 4 ∷ 5 ∷ 6 ∷ 7 ∷ [];
+    }
+
+-- a triangle that shares three vertices with a quad
+abbrev pub three-shared : Mesh
+three-shared =
+    record {
+      cells = 2;
+      vertices = 4;
+      edges = 5;
+      kinds = 4 ∷ 3 ∷ [];
+      cellVertices = 0 ∷ 1 ∷ 2 ∷ 3 ∷ 0 ∷ 1 ∷ 2 ∷ [];
+      cellEdges = 0 ∷ 1 ∷ 2 ∷ 3 ∷ 4 ∷ 1 ∷ 0 ∷ [];
+    }
+
+-- a quad twice
+abbrev pub quad-twice : Mesh
+quad-twice =
+    record {
+      cells = 2;
+      vertices = 4;
+      edges = 4;
+      kinds = 4 ∷ 4 ∷ [];
+      cellVertices = 0 ∷ 1 ∷ 2 ∷ 3 ∷ 0 ∷ 1 ∷ 2 ∷ 3 ∷ [];
+      cellEdges = 0 ∷ 1 ∷ 2 ∷ 3 ∷ 0 ∷ 1 ∷ 2 ∷ 3 ∷ [];
+    }
+
 -- opens the definitions of this crate and of those below it
 unfoldable pub opened-grid : Unit {0}
-unfolding opened-lists cellsOf kindsPresent before part has share distinct sameTwo allBelow corners sides placesAgree edgeRule cellsRight kindsRight vertexPlaces verticesRight edgesRight
+unfolding opened-lists cellsOf kindsPresent before part has share distinct sameTwo allBelow corners sides placesAgree edgeRule cellsRight kindsRight kindsMatch vertexPlaces verticesRight edgesRight
 opened-grid = tt

@@ -1,20 +1,18 @@
--- What holds of a mesh that checks 1, 26, 2 and 3 pass (`Fine`): its lists, and that the vertices of a cell differ and so do its edges; and of three
--- numbers a cell in a flat list. Assumes nothing.
-use Prim.Native.Nat.{ℕ, zero, suc, _+_, _*_, _<_, _≤_}
+-- What holds of a mesh that checks 1, 26, 2 and 3 pass (`Fine`): its lists, and that the vertices of a cell differ and so do its edges. Assumes nothing.
+use Prim.Native.Nat.{ℕ, _<_, _≤_}
 use native.Mathlib.Omega.{arith}
 use mathlib.Core.Bool.{Bool, true, not}
-use mathlib.Core.Path.{_≡_, refl, sym, ap, ap₂, _∙_}
+use mathlib.Core.Path.{_≡_, refl, sym, ap, _∙_}
 use mathlib.Core.Logic.{_⊎_, inl, inr, ⊎-elim}
 use mathlib.Core.List.{List, [], _∷_}
-use lib.ListN.{length, getD, replicate, length-replicate, getD-replicate}
+use lib.ListN.{length, getD, length-replicate, getD-replicate}
 use lib.Dec.{eqb, ltb}
 use borrow.Author.Tests.{lt-ltb, ltb-true, eqb-true, eqb-false, eq-eqb, not-true}
 use Rattle.lists.specs.Bool.{_and_, _or_, iff-sides, true≢false, every, every-at, and-left, and-right, and-both, or-cases, or-left, or-right}
 use Rattle.lists.specs.Bounded.{all, all-at, all-of, lt-or-le}
 use Rattle.lists.specs.Refusals.{refusal, refusal-at}
-use Rattle.grid.specs.Cells.{before, part, own, shareIn, distinct, endsOf, sameTwo, share as share-number}
-use Rattle.grid.specs.CellsFacts.{Shaped, before-same, length-part, getD-part, has-place as number-place, has-at as number-at}
-use Rattle.grid.specs.Shape.{entity, triple, has, share}
+use Rattle.grid.specs.Cells.{before, own, distinct, endsOf, sameTwo}
+use Rattle.grid.specs.CellsFacts.{Shaped, length-part}
 use Rattle.grid.specs.Mesh.{mostCells, mostVertices, mostEdges, Mesh, triangles, kind, corners, sides, firstVertex, secondVertex, placesAgree, edgeRule, cellsRight, kindsRight, vertexPlaces, verticesRight, edgesRight, meshChecks}
 use Rattle.numbers.specs.Ranges.{within, within-low, within-high, allBelow, below-at}
 
@@ -26,48 +24,43 @@ unfolding allBelow
 below-most l v d e =
     all-of (length l) _ (λ k lk. lt-ltb (getD l k 0) mostVertices (omega (arith, within-high 3 mostVertices v (every-at _ e 0), below-at l v (every-at _ e 1) k lk)))
 
--- check 26: there is a kind for each cell, and it is 3
-pub kinds-long : (m : Mesh) → kindsRight m ≡ true → length (m .kinds) ≡ m .cells
+-- check 26: there is a kind for each cell, and it is 3 or 4
+pub kinds-long : (C : ℕ) (ks : List ℕ) → kindsRight C ks ≡ true → length ks ≡ C
 unfolding kindsRight
-kinds-long m e = eqb-true _ _ (and-left _ _ e)
+kinds-long C ks e = eqb-true _ _ (and-left _ _ e)
 
-pub triangle : (m : Mesh) → kindsRight m ≡ true → (i : ℕ) → i < m .cells → kind m i ≡ 3
+pub kind-known : (C : ℕ) (ks : List ℕ) → kindsRight C ks ≡ true → (i : ℕ) → i < C → (getD ks i 0 ≡ 3) ⊎ (getD ks i 0 ≡ 4)
 unfolding kindsRight
-triangle m e i h = eqb-true _ _ (all-at (length (m .kinds)) (λ i. eqb (kind m i) 3) (and-right (eqb (length (m .kinds)) (m .cells)) _ e) i (omega (arith, kinds-long m e)))
+kind-known C ks e i h =
+    ⊎-elim (λ t. inl (eqb-true _ _ t)) (λ t. inr (eqb-true _ _ t))
+    (or-cases (eqb (getD ks i 0) 3) (eqb (getD ks i 0) 4)
+    (all-at (length ks) (λ i. eqb (getD ks i 0) 3 or eqb (getD ks i 0) 4) (and-right (eqb (length ks) C) _ e) i (omega (arith, kinds-long C ks e))))
 
-pub triangles-right : (m : Mesh) → m .kinds ≡ triangles (m .cells) → kindsRight m ≡ true
+pub triangles-right : (C : ℕ) → kindsRight C (triangles C) ≡ true
 unfolding kindsRight
-triangles-right m e =
-    let long : length (m .kinds) ≡ m .cells = ap length e ∙ length-replicate (m .cells) 3 in
-    and-both _ _ (eq-eqb _ _ long)
-    (all-of _ _ (λ i h. eq-eqb _ 3 (ap (λ (ks : List ℕ). getD ks i 0) e ∙ getD-replicate (m .cells) i 3 0 (omega (arith, long)))))
-
-pub all-triangles : (m : Mesh) → kindsRight m ≡ true → m .kinds ≡ triangles (m .cells)
-all-triangles m e = same-number (m .kinds) 3 (λ i h. triangle m e i (omega (arith, kinds-long m e))) ∙ ap triangles (kinds-long m e)
-  where
-    same-number : (l : List ℕ) (n : ℕ) → ((i : ℕ) → i < length l → getD l i 0 ≡ n) → l ≡ replicate (length l) n
-    same-number [] n h = refl
-    same-number (x ∷ l) n h = ap₂ (λ (y : ℕ) (r : List ℕ). y ∷ r) (h 0 (omega arith)) (same-number l n (λ i b. h (suc i) (omega arith)))
+triangles-right C =
+    let long : length (triangles C) ≡ C = length-replicate C 3 in
+    and-both _ _ (eq-eqb _ _ long) (all-of _ _ (λ i h. or-left _ _ (eq-eqb _ 3 (getD-replicate C i 3 0 (omega (arith, long))))))
 
 -- the later checks as the code reads them, of as many cells as there are kinds
-module _ (m : Mesh) (k : kindsRight m ≡ true) {b : Bool} where
+module _ (m : Mesh) (k : kindsRight (m .cells) (m .kinds) ≡ true) {b : Bool} where
   pub places-by : b ≡ eqb (length (m .cellVertices)) (before own (m .kinds) (length (m .kinds))) → b ≡ vertexPlaces m
   unfolding vertexPlaces
-  places-by e = e ∙ ap (λ (n : ℕ). eqb (length (m .cellVertices)) (before own (m .kinds) n)) (kinds-long m k)
+  places-by e = e ∙ ap (λ (n : ℕ). eqb (length (m .cellVertices)) (before own (m .kinds) n)) (kinds-long (m .cells) (m .kinds) k)
 
   pub vertices-by : b ≡ every (within 3 mostVertices (m .vertices) ∷ allBelow (m .cellVertices) (m .vertices) ∷ all (length (m .kinds)) (λ i. distinct (corners m i)) ∷ []) → b ≡ verticesRight m
   unfolding verticesRight
   vertices-by e =
-      e ∙ ap (λ (n : ℕ). every (within 3 mostVertices (m .vertices) ∷ allBelow (m .cellVertices) (m .vertices) ∷ all n (λ i. distinct (corners m i)) ∷ [])) (kinds-long m k)
+      e ∙ ap (λ (n : ℕ). every (within 3 mostVertices (m .vertices) ∷ allBelow (m .cellVertices) (m .vertices) ∷ all n (λ i. distinct (corners m i)) ∷ [])) (kinds-long (m .cells) (m .kinds) k)
 
 -- what they ask of the lists
-pub shaped : (m : Mesh) → cellsRight m ≡ true → kindsRight m ≡ true → vertexPlaces m ≡ true → Shaped (m .kinds) (m .cellVertices)
+pub shaped : (m : Mesh) → cellsRight m ≡ true → kindsRight (m .cells) (m .kinds) ≡ true → vertexPlaces m ≡ true → Shaped (m .kinds) (m .cellVertices)
 unfolding cellsRight vertexPlaces
 shaped m one kinds places =
-    let long = kinds-long m kinds in
+    let long = kinds-long (m .cells) (m .kinds) kinds in
     record {
       few = omega (arith, within-high 1 mostCells (m .cells) one, long);
-      kinds = λ i h. inl (triangle m kinds i (omega (arith, long)));
+      kinds = λ i h. kind-known (m .cells) (m .kinds) kinds i (omega (arith, long));
       long = eqb-true _ _ places ∙ ap (before own (m .kinds)) (sym long);
     }
 
@@ -80,8 +73,8 @@ pub record Fine (m : Mesh) : Type 0 where
   pub fewCells : m .cells ≤ mostCells
   pub fewVertices : m .vertices ≤ mostVertices
   pub fewEdges : m .edges ≤ mostEdges
-  pub each : (i : ℕ) → i < m .cells → kind m i ≡ 3
-  pub kinds : m .kinds ≡ triangles (m .cells)
+  pub kindsLong : length (m .kinds) ≡ m .cells
+  pub each : (i : ℕ) → i < m .cells → (kind m i ≡ 3) ⊎ (kind m i ≡ 4)
   pub vertexPlaces : length (m .cellVertices) ≡ before own (m .kinds) (m .cells)
   pub edgePlaces : length (m .cellEdges) ≡ before own (m .kinds) (m .cells)
   pub vertexBelow : (k : ℕ) → k < length (m .cellVertices) → getD (m .cellVertices) k 0 < m .vertices
@@ -93,7 +86,7 @@ pub fine : (m : Mesh) → refusal (meshChecks m) ≡ 0 → Fine m
 unfolding cellsRight vertexPlaces verticesRight edgesRight edgeRule
 fine m h =
     let cells : cellsRight m ≡ true = refusal-at (meshChecks m) h refl 0 in
-    let kinds : kindsRight m ≡ true = refusal-at (meshChecks m) h refl 1 in
+    let kinds : kindsRight (m .cells) (m .kinds) ≡ true = refusal-at (meshChecks m) h refl 1 in
     let places : vertexPlaces m ≡ true = refusal-at (meshChecks m) h refl 2 in
     let vertices : verticesRight m ≡ true = refusal-at (meshChecks m) h refl 3 in
     let edges : edgesRight m ≡ true = refusal-at (meshChecks m) h refl 4 in
@@ -102,8 +95,8 @@ fine m h =
       fewCells = within-high _ _ _ cells;
       fewVertices = within-high _ _ _ (every-at _ vertices 0);
       fewEdges = within-high _ _ _ (every-at _ edges 0);
-      each = triangle m kinds;
-      kinds = all-triangles m kinds;
+      kindsLong = kinds-long (m .cells) (m .kinds) kinds;
+      each = kind-known (m .cells) (m .kinds) kinds;
       vertexPlaces = eqb-true _ _ places;
       edgePlaces = eqb-true _ _ (every-at _ edges 1);
       vertexBelow = below-at _ _ (every-at _ vertices 1);
@@ -183,72 +176,29 @@ module _ (m : Mesh) (h : Fine m) (i : ℕ) (l : i < m .cells) where
       let n : ℕ = kind m i in
       let ends : sameTwo (firstVertex m i p) (secondVertex m i p) (firstVertex m i q) (secondVertex m i q) ≡ true =
       sym (iff-sides _ _ (h .rule i p i q l lp l lq)) ∙ eq-eqb _ _ e in
-      let first : (p : ℕ) → p < n → endsOf n p .first < n = λ p lp. first-below n (inl (h .each i l)) p lp in
-      let second : (p : ℕ) → p < n → endsOf n p .second < n = λ p lp. second-below n (inl (h .each i l)) p lp in
-      ends-differ n (inl (h .each i l)) p lp q lq
+      let first : (p : ℕ) → p < n → endsOf n p .first < n = λ p lp. first-below n (h .each i l) p lp in
+      let second : (p : ℕ) → p < n → endsOf n p .second < n = λ p lp. second-below n (h .each i l) p lp in
+      ends-differ n (h .each i l) p lp q lq
       (same-two-of _ _ _ _
       (⊎-elim
       (λ w. inl (same-place _ _ (first p lp) (first q lq) (w .0), same-place _ _ (second p lp) (second q lq) (w .1)))
       (λ w. inr (same-place _ _ (first p lp) (second q lq) (w .0), same-place _ _ (second p lp) (first q lq) (w .1)))
       (same-two-cases _ _ _ _ ends)))
 
--- ---- three numbers a cell in a flat list
-
-triple-at : (l : List ℕ) (i p : ℕ) → p < 3 → getD (triple l i) p 0 ≡ entity l i p
-triple-at l i zero h = refl
-triple-at l i (suc zero) h = refl
-triple-at l i (suc (suc zero)) h = refl
-triple-at l i (suc (suc (suc p))) h = absurd (omega arith)
-
--- x is at a place of cell i, and what is at a place is one of the three
-pub has-place : (l : List ℕ) (i x : ℕ) → has l i x ≡ true → (p : ℕ) × (p < 3) × (entity l i p ≡ x)
-has-place l i x h = let w = number-place (triple l i) x h in (w .0, w .1, sym (triple-at l i (w .0) (w .1)) ∙ w .2)
-
-pub has-at : (l : List ℕ) (i p x : ℕ) → p < 3 → entity l i p ≡ x → has l i x ≡ true
-has-at l i p x h e = number-at (triple l i) p x h (triple-at l i p h ∙ e)
-
--- ---- triangles alone have their numbers so
-
-three : (xs : List ℕ) → length xs ≡ 3 → xs ≡ getD xs 0 0 ∷ getD xs 1 0 ∷ getD xs 2 0 ∷ []
-three [] e = absurd (omega arith)
-three (a ∷ []) e = absurd (omega arith)
-three (a ∷ b ∷ []) e = absurd (omega arith)
-three (a ∷ b ∷ c ∷ []) e = refl
-three (a ∷ b ∷ c ∷ d ∷ xs) e = absurd (omega arith)
-
-module _ (C : ℕ) (l : List ℕ) (long : length l ≡ 3 * C) where
-  pub triangle-places : before own (triangles C) C ≡ length l
-  triangle-places = omega (arith, before-same own C 3 C (omega arith), long)
-
-  starts : (i : ℕ) → i ≤ C → before own (triangles C) i ≡ 3 * i
-  starts i h = omega (arith, before-same own C 3 i h)
-
-  pub triangle-part : (i : ℕ) → i < C → part own (triangles C) l i ≡ triple l i
-  triangle-part i h =
-      let kind-is : getD (triangles C) i 0 ≡ 3 = getD-replicate C i 3 0 h in
-      let at : (p : ℕ) → p < 3 → getD (part own (triangles C) l i) p 0 ≡ entity l i p =
-      λ p lp. getD-part own (triangles C) l i p (omega (arith, kind-is)) ∙ ap (λ (k : ℕ). getD l (k + p) 0) (starts i (omega arith)) in
-      three _ (length-part own (triangles C) l C i (sym triangle-places) h ∙ kind-is)
-      ∙ rw (at 0 (omega arith), at 1 (omega arith), at 2 (omega arith))
-
-  pub triangles-share : (i j : ℕ) → i < C → j < C → share l i j ≡ shareIn (triangles C) l i j
-  triangles-share i j hi hj = ap₂ share-number (sym (triangle-part i hi)) (sym (triangle-part j hj))
-
--- so have the cells of a mesh of triangles
-pub corners-triple : (m : Mesh) → m .kinds ≡ triangles (m .cells) → length (m .cellVertices) ≡ 3 * m .cells → (i : ℕ) → i < m .cells → corners m i ≡ triple (m .cellVertices) i
-unfolding corners
-corners-triple m e long i h = ap (λ (ks : List ℕ). part own ks (m .cellVertices) i) e ∙ triangle-part (m .cells) (m .cellVertices) long i h
-
--- the lists of a mesh that the checks pass
+-- the lists of a mesh that the checks pass have their shape
 module _ (m : Mesh) (h : Fine m) where
-  places-are : before own (m .kinds) (m .cells) ≡ 3 * m .cells
-  places-are = ap (λ (ks : List ℕ). before own ks (m .cells)) (h .kinds) ∙ omega (arith, before-same own (m .cells) 3 (m .cells) (omega arith))
+  pub vertices-shaped : Shaped (m .kinds) (m .cellVertices)
+  vertices-shaped =
+      record {
+        few = omega (arith, h .kindsLong, h .fewCells);
+        kinds = λ i l. h .each i (omega (arith, h .kindsLong));
+        long = h .vertexPlaces ∙ ap (before own (m .kinds)) (sym (h .kindsLong));
+      }
 
-  pub vertex-thirds : length (m .cellVertices) ≡ 3 * m .cells
-  vertex-thirds = h .vertexPlaces ∙ places-are
-
-  pub edge-thirds : length (m .cellEdges) ≡ 3 * m .cells
-  edge-thirds = h .edgePlaces ∙ places-are
-
-  pub corners-are : (i : ℕ) → i < m .cells → corners m i ≡ triple (m .cellVertices) i
-  corners-are = corners-triple m (h .kinds) vertex-thirds
+  pub edges-shaped : Shaped (m .kinds) (m .cellEdges)
+  edges-shaped =
+      record {
+        few = omega (arith, h .kindsLong, h .fewCells);
+        kinds = λ i l. h .each i (omega (arith, h .kindsLong));
+        long = h .edgePlaces ∙ ap (before own (m .kinds)) (sym (h .kindsLong));
+      }

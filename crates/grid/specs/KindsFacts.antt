@@ -1,28 +1,112 @@
 -- Laws of the kinds of the cells: what check 26 says of them, that the kind of a cell is present, and once; and the kinds present of triangles.
 -- Assumes nothing.
-use Prim.Native.Nat.{ℕ, zero, suc, _+_, _<_, _≤_}
-use native.Mathlib.Nat.{not-suc-le-zero, le-of-suc-le-suc}
+use Prim.Native.Nat.{ℕ, zero, suc, _+_, _*_, _<_, _≤_}
+use native.Mathlib.Nat.{add-mul, one-mul, zero-mul, not-suc-le-zero, le-of-suc-le-suc}
 use native.Mathlib.Omega.{arith}
 use mathlib.Core.Bool.{Bool, true, false}
-use mathlib.Core.Path.{_≡_, refl, ap, subst, _∙_}
-use mathlib.Core.Logic.{_⊎_, inl, inr}
+use mathlib.Core.Path.{_≡_, refl, sym, ap, ap₂, subst, _∙_}
+use mathlib.Core.Logic.{_⊎_, inl, inr, ⊎-elim}
 use mathlib.Core.List.{List, [], _∷_, flatMap}
 use lib.ListN.{length, getD, length-replicate, getD-replicate}
 use lib.Dec.{eqb, ltb}
-use borrow.Author.Tests.{lt-ltb, eq-eqb}
+use borrow.Author.Tests.{lt-ltb, eq-eqb, ne-eqb, eqb-true}
+use Rattle.lists.specs.Bool.{_and_, _or_, every, every-at, every-fails, every-of, _also_, end, and-left, and-right, and-both, and-no-left, or-left, or-right, same-test}
+use Rattle.lists.specs.Bounded.{all, all-at, all-of}
 use Rattle.lists.specs.Range.{filter}
 use Rattle.lists.specs.Total.{total, gate, total-filter}
-use Rattle.grid.specs.Mesh.{Mesh, triangles, cellsOf, kindsPresent, kindsRight}
-use Rattle.grid.specs.Facts.{kinds-long, triangle}
+use Rattle.grid.specs.Cells.{before}
+use Rattle.grid.specs.CellsFacts.{before-more, before-most}
+use Rattle.grid.specs.Mesh.{triangles, cellsOf, kindsPresent, kindsRight, kindsMatch}
+use Rattle.grid.specs.Facts.{kinds-long, kind-known}
 
 -- each of C cells has a kind, and it is 3 or 4
 pub record Kinded (C : ℕ) (ks : List ℕ) : Type 0 where
   pub long : length ks ≡ C
   pub each : (i : ℕ) → i < C → (getD ks i 0 ≡ 3) ⊎ (getD ks i 0 ≡ 4)
 
--- check 26 passes: so it is in the mesh
-pub kinded : (m : Mesh) → kindsRight m ≡ true → Kinded (m .cells) (m .kinds)
-kinded m e = record { long = kinds-long m e; each = λ i h. inl (triangle m e i h) }
+-- so check 26 says
+pub kinded : (C : ℕ) (ks : List ℕ) → kindsRight C ks ≡ true → Kinded C ks
+kinded C ks e = record { long = kinds-long C ks e; each = kind-known C ks e }
+
+-- ---- how many cells are of a kind
+
+-- how many of the first i cells are
+abbrev pub kindsTo : List ℕ → ℕ → ℕ → ℕ
+kindsTo ks n i = before (λ k. gate (eqb k n) 1) ks i
+
+-- the numbers of all cells, cell by cell
+before-first : (w : ℕ → ℕ) (k : ℕ) (ks : List ℕ) (i : ℕ) → before w (k ∷ ks) (suc i) ≡ w k + before w ks i
+unfolding before
+before-first w k ks zero = omega arith
+before-first w k ks (suc i) = omega (arith, before-first w k ks i)
+
+before-total : (w : ℕ → ℕ) (ks : List ℕ) → before w ks (length ks) ≡ total w ks
+unfolding before total
+before-total w [] = refl
+before-total w (k ∷ ks) = before-first w k ks (length ks) ∙ ap (λ (t : ℕ). w k + t) (before-total w ks)
+
+pub kinds-all : (ks : List ℕ) (n : ℕ) → kindsTo ks n (length ks) ≡ cellsOf ks n
+unfolding cellsOf
+kinds-all ks n = before-total (λ k. gate (eqb k n) 1) ks
+
+-- one more
+pub kinds-next : (ks : List ℕ) (n i : ℕ) → kindsTo ks n (i + 1) ≡ kindsTo ks n i + gate (eqb (getD ks i 0) n) 1
+kinds-next ks n i = before-more (λ k. gate (eqb k n) 1) ks i
+
+pub kinds-few : (ks : List ℕ) (n i : ℕ) → kindsTo ks n i ≤ i
+kinds-few ks n i = omega (arith, before-most (λ k. gate (eqb k n) 1) ks 1 i (λ j _. most (eqb (getD ks j 0) n)))
+  where
+    most : (b : Bool) → gate b 1 ≤ 1
+    most true = omega arith
+    most false = omega arith
+
+-- all cells are of one kind: so many are of it, and none of another
+alone : (n : ℕ) (ks : List ℕ) → ((i : ℕ) → i < length ks → getD ks i 0 ≡ n) → (k : ℕ) → cellsOf ks k ≡ gate (eqb n k) (length ks)
+unfolding cellsOf total
+alone n [] h k = go (eqb n k)
+  where
+    go : (b : Bool) → 0 ≡ gate b 0
+    go true = refl
+    go false = refl
+alone n (x ∷ ks) h k = rw (h 0 (omega arith), alone n ks (λ i l. h (suc i) (omega arith)) k) (go (eqb n k))
+  where
+    go : (b : Bool) → gate b 1 + gate b (length ks) ≡ gate b (suc (length ks))
+    go true = omega arith
+    go false = refl
+
+-- triangles and quads are all cells
+one-kind : (k : ℕ) → (k ≡ 3) ⊎ (k ≡ 4) → gate (eqb k 3) 1 + gate (eqb k 4) 1 ≡ 1
+one-kind k (inl e) = rw e
+one-kind k (inr e) = rw e
+
+pub kinds-sum-to : (ks : List ℕ) (i : ℕ) → ((j : ℕ) → j < i → (getD ks j 0 ≡ 3) ⊎ (getD ks j 0 ≡ 4)) → kindsTo ks 3 i + kindsTo ks 4 i ≡ i
+unfolding before
+kinds-sum-to ks zero h = refl
+kinds-sum-to ks (suc i) h = omega (arith, kinds-sum-to ks i (λ j l. h j (omega arith)), one-kind (getD ks i 0) (h i (omega arith)))
+
+-- the numbers of cells, by how many of these are triangles and how many quads
+one-three : (b x y m n : ℕ) → b ≡ x * m + y * n → b + m ≡ (x + 1) * m + (y + 0) * n
+one-three b x y m n e = omega (arith, e, add-mul x 1 m, one-mul m, add-mul y 0 n, zero-mul n)
+
+one-four : (b x y m n : ℕ) → b ≡ x * m + y * n → b + n ≡ (x + 0) * m + (y + 1) * n
+one-four b x y m n e = omega (arith, e, add-mul x 0 m, zero-mul m, add-mul y 1 n, one-mul n)
+
+pub before-kinds : (ks : List ℕ) (w : ℕ → ℕ) (i : ℕ) → ((j : ℕ) → j < i → (getD ks j 0 ≡ 3) ⊎ (getD ks j 0 ≡ 4)) → before w ks i ≡ kindsTo ks 3 i * w 3 + kindsTo ks 4 i * w 4
+unfolding before
+before-kinds ks w zero each = omega (arith, zero-mul (w 3), zero-mul (w 4))
+before-kinds ks w (suc i) each =
+    let e = before-kinds ks w i (λ j h. each j (omega arith)) in
+    ⊎-elim (λ k. rw k (one-three (before w ks i) (kindsTo ks 3 i) (kindsTo ks 4 i) (w 3) (w 4) e))
+    (λ k. rw k (one-four (before w ks i) (kindsTo ks 3 i) (kindsTo ks 4 i) (w 3) (w 4) e)) (each i (omega arith))
+
+-- so of all cells
+pub before-cells : (C : ℕ) (ks : List ℕ) → Kinded C ks → (w : ℕ → ℕ) → before w ks C ≡ cellsOf ks 3 * w 3 + cellsOf ks 4 * w 4
+before-cells C ks h w =
+    before-kinds ks w C (h .each)
+    ∙ ap₂ (λ (x y : ℕ). x * w 3 + y * w 4) (ap (kindsTo ks 3) (sym (h .long)) ∙ kinds-all ks 3) (ap (kindsTo ks 4) (sym (h .long)) ∙ kinds-all ks 4)
+
+pub kinds-sum : (C : ℕ) (ks : List ℕ) → Kinded C ks → cellsOf ks 3 + cellsOf ks 4 ≡ C
+kinds-sum C ks h = omega (arith, kinds-all ks 3, kinds-all ks 4, kinds-sum-to ks (length ks) (λ j l. h .each j (omega (arith, h .long))), h .long)
 
 -- ---- the kinds present
 
@@ -81,3 +165,56 @@ pub triangles-first : (C : ℕ) → getD (kindsPresent (triangles C)) 0 3 ≡ 3
 unfolding kindsPresent cellsOf filter flatMap total
 triangles-first zero = refl
 triangles-first (suc C) = ap (λ (l : List ℕ). getD l 0 3) (triangles-present (suc C) (omega arith))
+
+-- ---- the kind list of a run, as the code reads it
+
+module _ (C : ℕ) (ks : List ℕ) where
+  -- another length
+  pub match-short : (t q : ℕ) → (length ks ≡ C → ⊥) → kindsMatch C t q ks ≡ false
+  unfolding kindsMatch kindsRight
+  match-short t q h = every-fails _ 0 (and-no-left _ _ (ne-eqb (length ks) C h))
+
+  module _ (long : length ks ≡ C) where
+    abbrev known : Bool
+    known = all (length ks) (λ i. eqb (getD ks i 0) 3 or eqb (getD ks i 0) 4)
+
+    -- the two counts
+    pub match-both : (t q : ℕ) → kindsMatch C t q ks ≡ (known and eqb t (cellsOf ks 3) and eqb q (cellsOf ks 4))
+    unfolding kindsMatch kindsRight every _and_
+    match-both t q = rw (eq-eqb (length ks) C long)
+
+    -- one kind alone
+    only : (n o : ℕ) → ((i : ℕ) → i < C → (getD ks i 0 ≡ n) ⊎ (getD ks i 0 ≡ o)) → 0 ≡ cellsOf ks o → (i : ℕ) → i < length ks → getD ks i 0 ≡ n
+    only n o each none i l = ⊎-elim (λ e. e) (λ e. absurd (omega (arith, kind-present ks o i l e))) (each i (omega (arith, long)))
+
+    right : ((i : ℕ) → i < length ks → (getD ks i 0 ≡ 3) ⊎ (getD ks i 0 ≡ 4)) → kindsRight C ks ≡ true
+    unfolding kindsRight
+    right each = and-both _ _ (eq-eqb (length ks) C long) (all-of (length ks) _ (λ i l. ⊎-elim (λ e. or-left _ _ (eq-eqb _ 3 e)) (λ e. or-right _ _ (eq-eqb _ 4 e)) (each i l)))
+
+    pub match-three : (t q : ℕ) → q ≡ 0 → kindsMatch C t q ks ≡ (eqb t C and all (length ks) (λ i. eqb (getD ks i 0) 3))
+    unfolding kindsMatch
+    match-three t q none = rw none (same-test _ _ there back)
+      where
+        there : kindsMatch C t 0 ks ≡ true → (eqb t C and all (length ks) (λ i. eqb (getD ks i 0) 3)) ≡ true
+        there e =
+            let each = only 3 4 (kind-known C ks (every-at _ e 0)) (eqb-true _ _ (every-at _ e 2)) in
+            and-both _ _ (eq-eqb t C (eqb-true _ _ (every-at _ e 1) ∙ alone 3 ks each 3 ∙ long)) (all-of (length ks) _ (λ i l. eq-eqb _ 3 (each i l)))
+
+        back : (eqb t C and all (length ks) (λ i. eqb (getD ks i 0) 3)) ≡ true → kindsMatch C t 0 ks ≡ true
+        back e =
+            let each : (i : ℕ) → i < length ks → getD ks i 0 ≡ 3 = λ i l. eqb-true _ _ (all-at (length ks) (λ i. eqb (getD ks i 0) 3) (and-right (eqb t C) _ e) i l) in
+            every-of (right (λ i l. inl (each i l)) also eq-eqb t _ (eqb-true t C (and-left _ _ e) ∙ sym (alone 3 ks each 3 ∙ long)) also eq-eqb 0 _ (sym (alone 3 ks each 4)) also end)
+
+    pub match-four : (t q : ℕ) → t ≡ 0 → kindsMatch C t q ks ≡ (eqb q C and all (length ks) (λ i. eqb (getD ks i 0) 4))
+    unfolding kindsMatch
+    match-four t q none = rw none (same-test _ _ there back)
+      where
+        there : kindsMatch C 0 q ks ≡ true → (eqb q C and all (length ks) (λ i. eqb (getD ks i 0) 4)) ≡ true
+        there e =
+            let each = only 4 3 (λ i l. ⊎-elim inr inl (kind-known C ks (every-at _ e 0) i l)) (eqb-true _ _ (every-at _ e 1)) in
+            and-both _ _ (eq-eqb q C (eqb-true _ _ (every-at _ e 2) ∙ alone 4 ks each 4 ∙ long)) (all-of (length ks) _ (λ i l. eq-eqb _ 4 (each i l)))
+
+        back : (eqb q C and all (length ks) (λ i. eqb (getD ks i 0) 4)) ≡ true → kindsMatch C 0 q ks ≡ true
+        back e =
+            let each : (i : ℕ) → i < length ks → getD ks i 0 ≡ 4 = λ i l. eqb-true _ _ (all-at (length ks) (λ i. eqb (getD ks i 0) 4) (and-right (eqb q C) _ e) i l) in
+            every-of (right (λ i l. inr (each i l)) also eq-eqb 0 _ (sym (alone 4 ks each 3)) also eq-eqb q _ (eqb-true q C (and-left _ _ e) ∙ sym (alone 4 ks each 4 ∙ long)) also end)

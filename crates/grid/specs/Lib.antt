@@ -1,9 +1,10 @@
 -- Cells as lists of numbers, and where each begins in a flat list (`Cells`), the mesh with checks 1, 26, 2 and 3 (`Mesh`), and the meshes of the examples
--- (`Examples`). Three numbers a cell in a flat list, as code reads triangles (`Shape`). Laws: of parts of a flat list and of cells that share a number (`CellsFacts`), of
--- a mesh that the checks pass (`Facts`), of the kinds of its cells (`KindsFacts`), of the edge rule by keys (`EdgeRule`).
+-- (`Examples`). Four numbers a cell in a flat list, as code reads the cells (`Rows`). Laws: of parts of a flat list and of cells that share
+-- a number (`CellsFacts`), of rows (`RowsFacts`), of a mesh that the checks pass (`Facts`), of the kinds of its cells (`KindsFacts`), of the edge rule by keys (`EdgeRule`).
 pub mod Cells
 pub mod CellsFacts
-pub mod Shape
+pub mod Rows
+pub mod RowsFacts
 pub mod Mesh
 pub mod Facts
 pub mod KindsFacts

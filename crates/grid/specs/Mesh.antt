@@ -4,7 +4,7 @@ use mathlib.Core.Bool.{Bool}
 use mathlib.Core.List.{List, [], _∷_}
 use lib.ListN.{length, getD, replicate}
 use lib.Dec.{eqb, ltb}
-use Rattle.lists.specs.Bool.{_and_, every, iff}
+use Rattle.lists.specs.Bool.{_and_, _or_, every, iff}
 use Rattle.lists.specs.Bounded.{all}
 use Rattle.lists.specs.Range.{filter}
 use Rattle.lists.specs.Total.{count}
@@ -13,7 +13,7 @@ use Rattle.numbers.specs.Ranges.{within, allBelow}
 use Rattle.grid.specs.declared.Sizes.{Sizes}
 use Rattle.grid.specs.Cells.{before, part, own, distinct, endsOf, sameTwo}
 
--- C is 1 to 2,048, V is 3 to 4,096, E is 3 to 6,144
+-- C is 1 to 2,048, V is 3 to 4,096, E is 3 to 8,192
 abbrev pub mostCells : ℕ
 mostCells = 2048
 
@@ -21,7 +21,7 @@ abbrev pub mostVertices : ℕ
 mostVertices = 4096
 
 abbrev pub mostEdges : ℕ
-mostEdges = 6144
+mostEdges = 8192
 
 -- C cells, V vertices and E edges; the kind of each cell; as many vertex numbers and as many edge numbers for each cell as its kind says, one cell after
 -- the other
@@ -92,9 +92,13 @@ edgeRule m = all (m .cells) (λ i. all (kind m i) (λ e. all (m .cells) (λ j. a
 unfoldable pub cellsRight : Mesh → Bool
 cellsRight m = within 1 mostCells (m .cells)
 
--- 26: the kind list is C long, and each kind is one that is taken: 3
-unfoldable pub kindsRight : Mesh → Bool
-kindsRight m = eqb (length (m .kinds)) (m .cells) and all (length (m .kinds)) (λ i. eqb (kind m i) 3)
+-- 26: the kind list of C cells is C long, and each kind is 3 or 4
+unfoldable pub kindsRight : ℕ → List ℕ → Bool
+kindsRight C ks = eqb (length ks) C and all (length ks) (λ i. eqb (getD ks i 0) 3 or eqb (getD ks i 0) 4)
+
+-- a kind list of C cells, so many of them triangles and so many quads
+unfoldable pub kindsMatch : ℕ → ℕ → ℕ → List ℕ → Bool
+kindsMatch C triangles quads ks = every (kindsRight C ks ∷ eqb triangles (cellsOf ks 3) ∷ eqb quads (cellsOf ks 4) ∷ [])
 
 -- 1: the vertex list is as long as the cells' own counts add up to
 unfoldable pub vertexPlaces : Mesh → Bool
@@ -120,4 +124,4 @@ edgesRight m =
 -- 26 comes after C's range and before the vertex list's length
 abbrev pub meshChecks : Mesh → List Check
 meshChecks m =
-    check 1 (cellsRight m) ∷ check 26 (kindsRight m) ∷ check 1 (vertexPlaces m) ∷ check 2 (verticesRight m) ∷ check 3 (edgesRight m) ∷ []
+    check 1 (cellsRight m) ∷ check 26 (kindsRight (m .cells) (m .kinds)) ∷ check 1 (vertexPlaces m) ∷ check 2 (verticesRight m) ∷ check 3 (edgesRight m) ∷ []

@@ -10,6 +10,7 @@ use crate::shape::is_distinct;
 use crate::shape::kinds_known;
 use numbers::all_below;
 use numbers::is_within;
+use numbers::wide;
 ghost use mathlib.Core.Path.{_≡_};
 ghost use Prim.Native.Nat.{_≤_};
 ghost use mathlib.Core.Bool.{true};
@@ -25,10 +26,10 @@ ghost use Rattle.grid.specs.CellsFacts.{Shaped};
 ghost use Rattle.grid.specs.Mesh.{mostCells, mostVertices, mostEdges, meshWith, kindsRight, edgeRule, edgesRight, meshChecks};
 
 // Check 26.
-fn kinds_right(sizes: Sizes, kinds: &[u8]) -> bool
-    ensures { λ r. ⌜ r ≡ kindsRight (meshWith sizes (now (kinds .entry)) [] []) ⌝ }
+fn kinds_right(cells: u32, kinds: &[u8]) -> bool
+    ensures { λ r. ⌜ r ≡ kindsRight cells (now (kinds .entry)) ⌝ }
 {
-    (kinds.len() == (sizes.cells as usize)) & kinds_known(kinds)
+    (kinds.len() == wide(cells)) & kinds_known(kinds)
 }
 
 // Check 1 but for C's range, of so many kinds.
@@ -103,7 +104,7 @@ pub fn mesh_refusal(sizes: Sizes, kinds: &[u8], cell_vertices: &[u32], cell_edge
 {
     if !is_within(1, MOST_CELLS as u64, sizes.cells as u64) {
         1
-    } else if !kinds_right(sizes, kinds) {
+    } else if !kinds_right(sizes.cells, kinds) {
         26
     } else if !places_right(kinds, cell_vertices) {
         1

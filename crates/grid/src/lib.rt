@@ -5,14 +5,17 @@ mod shape;
 
 pub use checks::mesh_refusal;
 pub use shape::corners_of;
+pub use shape::count_kind;
 pub use shape::has_entity;
+pub use shape::kinds_match;
+pub use shape::write_rows;
 
 // The most cells, vertices and edges of a mesh.
 pub const MOST_CELLS: usize = 2048;
 
 pub const MOST_VERTICES: usize = 4096;
 
-pub const MOST_EDGES: usize = 6144;
+pub const MOST_EDGES: usize = 8192;
 
 // The numbers of cells, vertices and edges of a mesh.
 pub struct Sizes {

@@ -1,17 +1,21 @@
-// The shape of a cell: its kind says how many vertices it has, 3 or 4, and it has as many edges; and the vertices that each edge joins. Below, three numbers a
-// cell in a flat list.
+// The shape of a cell: its kind says how many vertices it has, 3 or 4, and it has as many edges; and the vertices that each edge joins. Below, rows: four
+// numbers a cell in a flat list.
 use crate::MOST_VERTICES;
+use numbers::wide;
 ghost use mathlib.Core.Path.{_≡_};
 ghost use mathlib.Core.Bool.{true};
 ghost use Prim.Native.Nat.{_+_, _*_, _≤_, _<_};
 ghost use lib.ListN.{length, getD};
 ghost use lib.Seq.{sets};
 ghost use lib.Dec.{eqb};
+ghost use Rattle.lists.specs.Bool.{_or_};
 ghost use Rattle.lists.specs.Bounded.{all};
 ghost use Rattle.numbers.specs.Ranges.{allBelow};
-ghost use Rattle.grid.specs.Cells.{before, own, distinct};
-ghost use Rattle.grid.specs.Shape.{has};
-ghost use Rattle.grid.specs.Mesh.{mostCells, mostVertices};
+ghost use Rattle.grid.specs.Cells.{before, own, has, distinct};
+ghost use Rattle.grid.specs.CellsFacts.{Shaped};
+ghost use Rattle.grid.specs.Rows.{row, rowsOf};
+ghost use Rattle.grid.specs.RowsFacts.{filled};
+ghost use Rattle.grid.specs.Mesh.{mostCells, mostVertices, cellsOf, kindsMatch};
 ghost use Rattle.grid.specs.EdgeRule.{pairKey, cellKeys};
 
 // The most vertices of a cell, and the most edges.
@@ -24,17 +28,62 @@ pub fn corners_of(kind: u8) -> usize
     kind as usize
 }
 
-// Whether each kind is one that is taken, 3. With no way out before the end, it is compiled to several comparisons at a time.
+// Whether each kind is 3 or 4. With no way out before the end, it is compiled to several comparisons at a time.
 pub(crate) fn kinds_known(kinds: &[u8]) -> bool
-    ensures { λ r. ⌜ r ≡ all (length (now (kinds .entry))) (λ i. eqb (getD (now (kinds .entry)) i 0) 3) ⌝ }
+    ensures { λ r. ⌜ r ≡ all (length (now (kinds .entry))) (λ i. eqb (getD (now (kinds .entry)) i 0) 3 or eqb (getD (now (kinds .entry)) i 0) 4) ⌝ }
 {
     let mut known = true;
     let mut i = 0;
     while i < kinds.len() {
-        known = known & (kinds[i] == 3);
+        let kind = kinds[i];
+        known = known & ((kind == 3) | (kind == 4));
         i += 1;
     }
     known
+}
+
+// How many cells are of a kind.
+pub fn count_kind(kinds: &[u8], kind: u8) -> u32
+    requires { ⌜ length (now kinds) ≤ mostCells ⌝ }
+    ensures { λ r. ⌜ r ≡ cellsOf (now (kinds .entry)) kind ⌝ }
+{
+    let mut count = 0;
+    let mut i = 0;
+    while i < kinds.len() {
+        count += (kinds[i] == kind) as u32;
+        i += 1;
+    }
+    count
+}
+
+// Whether all cells are of a kind. With no way out before the end, as above.
+fn all_are(kinds: &[u8], kind: u8) -> bool
+    ensures { λ r. ⌜ r ≡ all (length (now (kinds .entry))) (λ i. eqb (getD (now (kinds .entry)) i 0) kind) ⌝ }
+{
+    let mut same = true;
+    let mut i = 0;
+    while i < kinds.len() {
+        same = same & (kinds[i] == kind);
+        i += 1;
+    }
+    same
+}
+
+// Whether the kinds are those of so many cells, of which so many are triangles and so many quads. Of one kind alone, the list is not counted.
+pub fn kinds_match(cells: u32, triangles: u32, quads: u32, kinds: &[u8]) -> bool
+    requires { ⌜ cells ≤ mostCells ⌝ }
+    ensures { λ r. ⌜ r ≡ kindsMatch cells triangles quads (now (kinds .entry)) ⌝ }
+{
+    if kinds.len() != wide(cells) {
+        return false;
+    }
+    if quads == 0 {
+        return (triangles == cells) & all_are(kinds, 3);
+    }
+    if triangles == 0 {
+        return (quads == cells) & all_are(kinds, 4);
+    }
+    kinds_known(kinds) & (triangles == count_kind(kinds, 3)) & (quads == count_kind(kinds, 4))
 }
 
 // How many vertices the cells have together, and edges.
@@ -112,11 +161,42 @@ pub(crate) fn write_cell_keys(cell: &[u32], keys: &mut [u32], at: usize)
     }
 }
 
-// Whether x is one of the three entities of a cell, in a list of three a cell.
-pub fn has_entity(list: &[u32], cell: usize, x: u32) -> bool
-    requires { ⌜ 3 * cell + 3 ≤ length (now list) ⌝ }
-    ensures { λ r. ⌜ r ≡ has (now (list .entry)) cell x ⌝ }
+// Writes the row of a cell from a place on: its numbers, and `none` where these are three.
+fn write_row(cell: &[u32], none: u32, rows: &mut [u32], at: usize)
+    requires { ⌜ (3 ≤ length (now cell)) × (length (now cell) ≤ 4) ⌝ }
+    requires { ⌜ at + 4 ≤ length (now rows) ⌝ }
+    ensures { λ _. ⌜ now (rows .exit) ≡ sets (now (rows .entry)) at (filled none (now (cell .entry))) ⌝ }
 {
-    let at = 3 * cell;
-    (list[at] == x) | (list[at + 1] == x) | (list[at + 2] == x)
+    rows[at] = cell[0];
+    rows[at + 1] = cell[1];
+    rows[at + 2] = cell[2];
+    if cell.len() == 3 {
+        rows[at + 3] = none;
+    } else {
+        rows[at + 3] = cell[3];
+    }
+}
+
+// Writes the rows of the cells, from the list of their own numbers.
+pub fn write_rows(kinds: &[u8], list: &[u32], none: u32, rows: &mut [u32])
+    requires { ⌜ Shaped (now kinds) (now list) × (length (now rows) ≡ 4 * length (now kinds)) ⌝ }
+    ensures { λ _. ⌜ now (rows .exit) ≡ rowsOf none (now (kinds .entry)) (now (list .entry)) (length (now (kinds .entry))) ⌝ }
+{
+    let mut at = 0;
+    let mut i = 0;
+    while i < kinds.len() {
+        let end = end_of(kinds[i], at);
+        write_row(&list[at..end], none, rows, 4 * i);
+        at = end;
+        i += 1;
+    }
+}
+
+// Whether x is one of the four numbers of a cell's row.
+pub fn has_entity(rows: &[u32], cell: usize, x: u32) -> bool
+    requires { ⌜ 4 * cell + 4 ≤ length (now rows) ⌝ }
+    ensures { λ r. ⌜ r ≡ has (row (now (rows .entry)) cell) x ⌝ }
+{
+    let at = 4 * cell;
+    (rows[at] == x) | (rows[at + 1] == x) | (rows[at + 2] == x) | (rows[at + 3] == x)
 }

@@ -17,6 +17,7 @@ use planning::plan;
 use plans::PlanNumbers;
 use plans::Planned;
 use recorded::at_end;
+use recorded::kinds_of;
 use recorded::read_floats;
 use recorded::read_numbers;
 use recorded::read_word;
@@ -29,6 +30,7 @@ fn ready_agrees(
     case: Case,
     lengths: &[u32; 24],
     floats: &[f64; 912],
+    kinds: &[u8],
     test_dofs: &[u32],
     trial_dofs: &[u32],
     test_colours: &[u32],
@@ -62,6 +64,7 @@ fn ready_agrees(
         lengths,
         &places,
         floats,
+        kinds,
         test_dofs,
         trial_dofs,
         work,
@@ -76,6 +79,7 @@ fn ready_agrees(
         lengths,
         &places,
         floats,
+        kinds,
         test_dofs,
         trial_dofs,
         work,
@@ -87,7 +91,10 @@ fn ready_agrees(
 // Reads a case whole and replays it, with arrays that are long enough for 24 cells.
 fn case_agrees(fd: i32, floats: &[f64; 912]) -> bool {
     let case = read_case(fd);
+    let sizes = case.sizes;
     let mut lengths = [0u32; 24];
+    let triangles = [3u8; 2048];
+    let kinds = kinds_of(&triangles, sizes.cells);
     let mut cell_vertices = [0u32; 72];
     let mut cell_edges = [0u32; 72];
     let mut test_dofs = [0u32; 240];
@@ -101,7 +108,8 @@ fn case_agrees(fd: i32, floats: &[f64; 912]) -> bool {
     read_numbers(fd, room(&mut cell_vertices, &lengths, 0));
     read_numbers(fd, room(&mut cell_edges, &lengths, 0));
     let answer = plan(
-        case.sizes,
+        sizes,
+        kinds,
         front(&cell_vertices, &lengths, 0),
         front(&cell_edges, &lengths, 0),
         case.assembly,
@@ -121,6 +129,7 @@ fn case_agrees(fd: i32, floats: &[f64; 912]) -> bool {
             case,
             &lengths,
             floats,
+            kinds,
             &test_dofs,
             &trial_dofs,
             &test_colours,

@@ -26,6 +26,7 @@ pub fn entries_agree(
     lengths: &[u32; 24],
     places: &[u32; 4608],
     floats: &[f64],
+    kinds: &[u8],
     test_dofs: &[u32],
     trial_dofs: &[u32],
     work: &[u32],
@@ -36,6 +37,7 @@ pub fn entries_agree(
     let mut run = Run::begin_entries(n);
     for k in 0..wide(n.touching) {
         run = after(run.add_entries(
+            kinds,
             test_dofs,
             trial_dofs,
             work,
@@ -64,16 +66,18 @@ fn add_next(
     lengths: &[u32; 24],
     places: &[u32; 4608],
     floats: &[f64],
+    kinds: &[u8],
     test_dofs: &[u32],
     trial_dofs: &[u32],
     work: &[u32],
     matrix: &mut [f64],
 ) -> Run {
-    match run.look(test_dofs, trial_dofs, work) {
+    match run.look(kinds, test_dofs, trial_dofs, work) {
         Looked::Refused(r, _) => r,
         Looked::Found(r, record) => {
             if record.pattern == 255 {
                 after(r.add_distant(
+                    kinds,
                     test_dofs,
                     trial_dofs,
                     work,
@@ -90,6 +94,7 @@ fn add_next(
                 ))
             } else {
                 after(r.add_touching(
+                    kinds,
                     test_dofs,
                     trial_dofs,
                     work,
@@ -115,6 +120,7 @@ pub fn matrix_agrees(
     lengths: &[u32; 24],
     places: &[u32; 4608],
     floats: &[f64],
+    kinds: &[u8],
     test_dofs: &[u32],
     trial_dofs: &[u32],
     work: &[u32],
@@ -129,6 +135,7 @@ pub fn matrix_agrees(
             lengths,
             places,
             floats,
+            kinds,
             test_dofs,
             trial_dofs,
             work,

@@ -5,6 +5,7 @@ use crate::four_at;
 use crate::read_text;
 use crate::read_word;
 use function::Element;
+use function::Elements;
 use grid::Sizes;
 use integrands::Integrand;
 use integrands::Term;
@@ -17,14 +18,18 @@ pub struct Head {
     pub forms: [u8; 17],
 }
 
-// An element, its three numbers from digit i on.
-fn element_at(forms: &[u8; 17], i: usize) -> Element
+// The elements of a side: that of triangles, its three numbers from digit i on, stands for quads too, of which there are none.
+fn elements_at(forms: &[u8; 17], i: usize) -> Elements
     requires { ⌜ i ≤ 13 ⌝ }
 {
-    Element {
+    let element = Element {
         a: digit_at(forms, i) as u32,
         b: digit_at(forms, i + 1) as u32,
         c: digit_at(forms, i + 2) as u32,
+    };
+    Elements {
+        triangle: element,
+        quad: element,
     }
 }
 
@@ -52,6 +57,16 @@ pub fn read_integrand(fd: i32, forms: &[u8; 17], i: usize) -> Integrand
     }
 }
 
+// The front of a list of triangles, as long as there are cells; the whole list where there are more.
+pub fn kinds_of(triangles: &[u8], cells: u32) -> &[u8] {
+    let n = cells as usize;
+    if triangles.len() < n {
+        return triangles;
+    }
+    let start = 0;
+    &triangles[start..n]
+}
+
 // Sizes, forms and factors.
 pub fn read_head(fd: i32) -> Head {
     let numbers = read_text(fd);
@@ -63,8 +78,8 @@ pub fn read_head(fd: i32) -> Head {
         edges: four_at(&numbers, 8) as u32,
     };
     let assembly = Assembly {
-        test: element_at(&forms, 0),
-        trial: element_at(&forms, 3),
+        test: elements_at(&forms, 0),
+        trial: elements_at(&forms, 3),
         batch: four_at(&numbers, 12) as u32,
         integrand: integrand,
     };

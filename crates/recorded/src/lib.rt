@@ -2,6 +2,7 @@
 mod heads;
 
 pub use heads::Head;
+pub use heads::kinds_of;
 pub use heads::read_head;
 pub use heads::read_integrand;
 ghost use mathlib.Core.Path.{_≡_};
@@ -97,6 +98,17 @@ fn packed_at(text: &[u8; 17], i: usize) -> u32 {
         return four_at(text, 8) as u32;
     }
     four_at(text, 12) as u32
+}
+
+// The next kinds, four numbers in a word: the last digit of each is the kind.
+pub fn read_kinds(fd: i32, kinds: &mut [u8]) {
+    let mut text = [0u8; 17];
+    for i in 0..kinds.len() {
+        if i % 4 == 0 {
+            text = read_text(fd);
+        }
+        kinds[i] = digit_at(&text, 4 * (i % 4) + 3) as u8;
+    }
 }
 
 // The next numbers, four in a word.

@@ -182,15 +182,15 @@ finished-refused x l entries calls M e A v p =
 -- planning accepts: the machine's answers, position, matrix and lists
 finished-played : (x : Planning) (l l′ : Lists) (entries : Bool) (calls : List Call) (p : PlanNumbers) (M : List Float) (e : EntryLists) (A : List ℕ)
     (r : Run) (M′ : List Float) (e′ : EntryLists) (A′ : List ℕ)
-    → plan x l ≡ ready p → l′ ≡ planLists x l → 4 * length calls ≤ length A → Going (planIn l′) calls (standing (begun entries p) M e) A r M′ e′ A′
+    → plan x l ≡ ready p → l′ ≡ planLists x l → 4 * length calls ≤ length A → Going (planIn x l′) calls (standing (begun entries p) M e) A r M′ e′ A′
     → Finished x l entries calls M e A (played r) M′ e′ A′
 unfolding replayed replayedMatrix replayedLists replayedAnswers
 finished-played x l l′ entries calls p M e A r M′ e′ A′ z lists room going =
     let none = ready-is z .none in
-    let same : callAll (planIn l′) calls (begun entries p) M e ≡ embed x entries (machineRun (machineOf x entries) calls M e) =
+    let same : callAll (planIn x l′) calls (begun entries p) M e ≡ embed x entries (machineRun (machineOf x entries) calls M e) =
     rw lists (machine-beside x l p z entries calls M e) in
     let count : length (machineRun (machineOf x entries) calls M e .answers) ≡ length calls =
-    ap (λ (s : Progress). length (s .answers)) (sym same) ∙ length-answers (planIn l′) calls (begun entries p) M e in
+    ap (λ (s : Progress). length (s .answers)) (sym same) ∙ length-answers (planIn x l′) calls (begun entries p) M e in
     record {
       answer = rw none (ap played (going .run ∙ ap (λ (s : Progress). s .run) same));
       matrix = rw none (going .matrix ∙ ap (λ (s : Progress). s .matrix) same);
@@ -277,7 +277,7 @@ module _ (l : Plan) (pool : List Float) (call : List ℕ) (r : Run) (M : List Fl
 -- the calls that there is room for, on a run begun from planning's numbers
 pub finished-begun : (x : Planning) (l l′ : Lists) (entries : Bool) (calls : List ℕ) (pool : List Float) (n : ℕ) (p : PlanNumbers) (b : Run) (M : List Float) (e : EntryLists)
     (A : List ℕ) (r : Run) (M′ : List Float) (e′ : EntryLists) (A′ : List ℕ) → plan x l ≡ ready p → l′ ≡ planLists x l → n ≡ callCount calls A → b ≡ begun entries p
-    → Going (planIn l′) (callsOf calls pool n) (standing b M e) A r M′ e′ A′
+    → Going (planIn x l′) (callsOf calls pool n) (standing b M e) A r M′ e′ A′
     → Finished x l entries (callsOf calls pool (callCount calls A)) M e A (played r) M′ e′ A′
 finished-begun x l l′ entries calls pool n p b M e A r M′ e′ A′ z lists count start going =
     finished-played x l l′ entries (callsOf calls pool (callCount calls A)) p M e A r M′ e′ A′ z lists (omega (arith, length-calls calls pool (callCount calls A), count-fits calls A .1)) (rw (count, start) at going)

@@ -12,7 +12,7 @@ ghost use mathlib.Core.List.{[], _∷_};
 ghost use Prim.Native.Nat.{_+_, _*_, _≤_, _<_};
 ghost use lib.ListN.{length};
 ghost use lib.Seq.{sets};
-ghost use Rattle.grid.specs.Mesh.{meshOf};
+ghost use Rattle.grid.specs.Mesh.{meshWith};
 ghost use Rattle.plans.specs.Planning.{listsOf, planLists};
 ghost use Rattle.planning.specs.Arguments.{planningWith};
 ghost use Rattle.runs.specs.Runs.{planOf, entryLists, begun, addDistant, distantMatrix, addTouching, touchingMatrix, addEntries, entriesWritten};
@@ -50,6 +50,7 @@ fn list_in<'a>(pool: &'a [f64], call: &[usize], j: usize) -> &'a [f64]
 // The add of a distant pair that the call's numbers encode.
 fn play_distant(
     run: Run,
+    kinds: &[u8],
     test_dofs: &[u32],
     trial_dofs: &[u32],
     work: &[u32],
@@ -58,10 +59,11 @@ fn play_distant(
     matrix: &mut [f64],
 ) -> Added
     requires { ⌜ length (now call) ≡ 11 ⌝ }
-    ensures { λ r. ⌜ addedOf r ≡ addDistant (runOf run) (planOf (now («test_dofs» .entry)) (now («trial_dofs» .entry)) (now (work .entry))) (now (matrix .entry)) (distantIn (now (pool .entry)) (now (call .entry))) ⌝ }
-    ensures { λ _. ⌜ now (matrix .exit) ≡ distantMatrix (runOf run) (planOf (now («test_dofs» .entry)) (now («trial_dofs» .entry)) (now (work .entry))) (now (matrix .entry)) (distantIn (now (pool .entry)) (now (call .entry))) ⌝ }
+    ensures { λ r. ⌜ addedOf r ≡ addDistant (runOf run) (planOf (now (kinds .entry)) (now («test_dofs» .entry)) (now («trial_dofs» .entry)) (now (work .entry))) (now (matrix .entry)) (distantIn (now (pool .entry)) (now (call .entry))) ⌝ }
+    ensures { λ _. ⌜ now (matrix .exit) ≡ distantMatrix (runOf run) (planOf (now (kinds .entry)) (now («test_dofs» .entry)) (now («trial_dofs» .entry)) (now (work .entry))) (now (matrix .entry)) (distantIn (now (pool .entry)) (now (call .entry))) ⌝ }
 {
     run.add_distant(
+        kinds,
         test_dofs,
         trial_dofs,
         work,
@@ -81,6 +83,7 @@ fn play_distant(
 // The add of a touching pair that the call's numbers encode.
 fn play_touching(
     run: Run,
+    kinds: &[u8],
     test_dofs: &[u32],
     trial_dofs: &[u32],
     work: &[u32],
@@ -89,10 +92,11 @@ fn play_touching(
     matrix: &mut [f64],
 ) -> Added
     requires { ⌜ length (now call) ≡ 11 ⌝ }
-    ensures { λ r. ⌜ addedOf r ≡ addTouching (runOf run) (planOf (now («test_dofs» .entry)) (now («trial_dofs» .entry)) (now (work .entry))) (now (matrix .entry)) (touchingIn (now (pool .entry)) (now (call .entry))) ⌝ }
-    ensures { λ _. ⌜ now (matrix .exit) ≡ touchingMatrix (runOf run) (planOf (now («test_dofs» .entry)) (now («trial_dofs» .entry)) (now (work .entry))) (now (matrix .entry)) (touchingIn (now (pool .entry)) (now (call .entry))) ⌝ }
+    ensures { λ r. ⌜ addedOf r ≡ addTouching (runOf run) (planOf (now (kinds .entry)) (now («test_dofs» .entry)) (now («trial_dofs» .entry)) (now (work .entry))) (now (matrix .entry)) (touchingIn (now (pool .entry)) (now (call .entry))) ⌝ }
+    ensures { λ _. ⌜ now (matrix .exit) ≡ touchingMatrix (runOf run) (planOf (now (kinds .entry)) (now («test_dofs» .entry)) (now («trial_dofs» .entry)) (now (work .entry))) (now (matrix .entry)) (touchingIn (now (pool .entry)) (now (call .entry))) ⌝ }
 {
     run.add_touching(
+        kinds,
         test_dofs,
         trial_dofs,
         work,
@@ -110,6 +114,7 @@ fn play_touching(
 // The entries call that the call's numbers encode.
 fn play_entries(
     run: Run,
+    kinds: &[u8],
     test_dofs: &[u32],
     trial_dofs: &[u32],
     work: &[u32],
@@ -120,12 +125,13 @@ fn play_entries(
     values: &mut [f64],
 ) -> Added
     requires { ⌜ length (now call) ≡ 11 ⌝ }
-    ensures { λ r. ⌜ addedOf r ≡ addEntries (runOf run) (planOf (now («test_dofs» .entry)) (now («trial_dofs» .entry)) (now (work .entry)))
+    ensures { λ r. ⌜ addedOf r ≡ addEntries (runOf run) (planOf (now (kinds .entry)) (now («test_dofs» .entry)) (now («trial_dofs» .entry)) (now (work .entry)))
         (entryLists (now (rows .entry)) (now (columns .entry)) (now (values .entry))) (touchingIn (now (pool .entry)) (now (call .entry))) ⌝ }
-    ensures { λ _. ⌜ entryLists (now (rows .exit)) (now (columns .exit)) (now (values .exit)) ≡ entriesWritten (runOf run) (planOf (now («test_dofs» .entry)) (now («trial_dofs» .entry)) (now (work .entry)))
+    ensures { λ _. ⌜ entryLists (now (rows .exit)) (now (columns .exit)) (now (values .exit)) ≡ entriesWritten (runOf run) (planOf (now (kinds .entry)) (now («test_dofs» .entry)) (now («trial_dofs» .entry)) (now (work .entry)))
         (entryLists (now (rows .entry)) (now (columns .entry)) (now (values .entry))) (touchingIn (now (pool .entry)) (now (call .entry))) ⌝ }
 {
     run.add_entries(
+        kinds,
         test_dofs,
         trial_dofs,
         work,
@@ -192,6 +198,7 @@ fn put_added(added: Added, answers: &mut [u32], at: usize) -> Run
 // Plays one call, and stores its answer from place `at` on.
 fn play_call(
     run: Run,
+    kinds: &[u8],
     test_dofs: &[u32],
     trial_dofs: &[u32],
     work: &[u32],
@@ -205,23 +212,23 @@ fn play_call(
     at: usize,
 ) -> Run
     requires { ⌜ (length (now call) ≡ 11) × (at + 4 ≤ length (now answers)) ⌝ }
-    ensures { λ r. ⌜ Stepped (planOf (now («test_dofs» .entry)) (now («trial_dofs» .entry)) (now (work .entry))) (callOf (now (pool .entry)) (now (call .entry)))
+    ensures { λ r. ⌜ Stepped (planOf (now (kinds .entry)) (now («test_dofs» .entry)) (now («trial_dofs» .entry)) (now (work .entry))) (callOf (now (pool .entry)) (now (call .entry)))
         (standing (runOf run) (now (matrix .entry)) (entryLists (now (rows .entry)) (now (columns .entry)) (now (values .entry)))) (now (answers .entry)) at (runOf r) (now (matrix .exit))
         (entryLists (now (rows .exit)) (now (columns .exit)) (now (values .exit))) (now (answers .exit)) ⌝ }
 {
     if call[0] == 0 {
-        return put_looked(run.look(test_dofs, trial_dofs, work), answers, at);
+        return put_looked(run.look(kinds, test_dofs, trial_dofs, work), answers, at);
     }
     if call[0] == 1 {
         return put_added(
-            play_distant(run, test_dofs, trial_dofs, work, call, pool, matrix),
+            play_distant(run, kinds, test_dofs, trial_dofs, work, call, pool, matrix),
             answers,
             at,
         );
     }
     if call[0] == 2 {
         return put_added(
-            play_touching(run, test_dofs, trial_dofs, work, call, pool, matrix),
+            play_touching(run, kinds, test_dofs, trial_dofs, work, call, pool, matrix),
             answers,
             at,
         );
@@ -229,6 +236,7 @@ fn play_call(
     put_added(
         play_entries(
             run,
+            kinds,
             test_dofs,
             trial_dofs,
             work,
@@ -246,6 +254,7 @@ fn play_call(
 // Plays the first n calls, the first one first.
 fn play_calls(
     run: Run,
+    kinds: &[u8],
     test_dofs: &[u32],
     trial_dofs: &[u32],
     work: &[u32],
@@ -259,7 +268,7 @@ fn play_calls(
     answers: &mut [u32],
 ) -> Run
     requires { ⌜ (11 * n ≤ length (now calls)) × (4 * n ≤ length (now answers)) ⌝ }
-    ensures { λ r. ⌜ Going (planOf (now («test_dofs» .entry)) (now («trial_dofs» .entry)) (now (work .entry))) (callsOf (now (calls .entry)) (now (pool .entry)) n)
+    ensures { λ r. ⌜ Going (planOf (now (kinds .entry)) (now («test_dofs» .entry)) (now («trial_dofs» .entry)) (now (work .entry))) (callsOf (now (calls .entry)) (now (pool .entry)) n)
         (standing (runOf run) (now (matrix .entry)) (entryLists (now (rows .entry)) (now (columns .entry)) (now (values .entry)))) (now (answers .entry)) (runOf r) (now (matrix .exit))
         (entryLists (now (rows .exit)) (now (columns .exit)) (now (values .exit))) (now (answers .exit)) ⌝ }
 {
@@ -270,6 +279,7 @@ fn play_calls(
         let call = &calls[start..end];
         r = play_call(
             r,
+            kinds,
             test_dofs,
             trial_dofs,
             work,
@@ -311,6 +321,7 @@ fn begin_run(numbers: PlanNumbers, entries: bool) -> Run
 // Plans, begins a run, of entries or dense, and plays the calls on it, as many as there is room to answer; plays nothing where planning refuses.
 pub fn replay(
     sizes: Sizes,
+    kinds: &[u8],
     cell_vertices: &[u32],
     cell_edges: &[u32],
     assembly: Assembly,
@@ -330,24 +341,25 @@ pub fn replay(
     values: &mut [f64],
     answers: &mut [u32],
 ) -> Replayed
-    ensures { λ r. ⌜ outcomeOf r ≡ replayed (planningWith (meshOf sizes (now («cell_vertices» .entry)) (now («cell_edges» .entry))) assembly)
+    ensures { λ r. ⌜ outcomeOf r ≡ replayed (planningWith (meshWith sizes (now (kinds .entry)) (now («cell_vertices» .entry)) (now («cell_edges» .entry))) assembly)
         (listsOf (now («test_dofs» .entry)) (now («trial_dofs» .entry)) (now («test_colours» .entry)) (now («trial_colours» .entry)) (now («test_owners» .entry)) (now («trial_owners» .entry)) (now (work .entry))) entries
         (callsOf (now (calls .entry)) (now (pool .entry)) (callCount (now (calls .entry)) (now (answers .entry)))) (now (matrix .entry)) (entryLists (now (rows .entry)) (now (columns .entry)) (now (values .entry))) ⌝ }
-    ensures { λ _. ⌜ now (matrix .exit) ≡ replayedMatrix (planningWith (meshOf sizes (now («cell_vertices» .entry)) (now («cell_edges» .entry))) assembly)
+    ensures { λ _. ⌜ now (matrix .exit) ≡ replayedMatrix (planningWith (meshWith sizes (now (kinds .entry)) (now («cell_vertices» .entry)) (now («cell_edges» .entry))) assembly)
         (listsOf (now («test_dofs» .entry)) (now («trial_dofs» .entry)) (now («test_colours» .entry)) (now («trial_colours» .entry)) (now («test_owners» .entry)) (now («trial_owners» .entry)) (now (work .entry))) entries
         (callsOf (now (calls .entry)) (now (pool .entry)) (callCount (now (calls .entry)) (now (answers .entry)))) (now (matrix .entry)) (entryLists (now (rows .entry)) (now (columns .entry)) (now (values .entry))) ⌝ }
-    ensures { λ _. ⌜ entryLists (now (rows .exit)) (now (columns .exit)) (now (values .exit)) ≡ replayedLists (planningWith (meshOf sizes (now («cell_vertices» .entry)) (now («cell_edges» .entry))) assembly)
+    ensures { λ _. ⌜ entryLists (now (rows .exit)) (now (columns .exit)) (now (values .exit)) ≡ replayedLists (planningWith (meshWith sizes (now (kinds .entry)) (now («cell_vertices» .entry)) (now («cell_edges» .entry))) assembly)
         (listsOf (now («test_dofs» .entry)) (now («trial_dofs» .entry)) (now («test_colours» .entry)) (now («trial_colours» .entry)) (now («test_owners» .entry)) (now («trial_owners» .entry)) (now (work .entry))) entries
         (callsOf (now (calls .entry)) (now (pool .entry)) (callCount (now (calls .entry)) (now (answers .entry)))) (now (matrix .entry)) (entryLists (now (rows .entry)) (now (columns .entry)) (now (values .entry))) ⌝ }
-    ensures { λ _. ⌜ now (answers .exit) ≡ replayedAnswers (planningWith (meshOf sizes (now («cell_vertices» .entry)) (now («cell_edges» .entry))) assembly)
+    ensures { λ _. ⌜ now (answers .exit) ≡ replayedAnswers (planningWith (meshWith sizes (now (kinds .entry)) (now («cell_vertices» .entry)) (now («cell_edges» .entry))) assembly)
         (listsOf (now («test_dofs» .entry)) (now («trial_dofs» .entry)) (now («test_colours» .entry)) (now («trial_colours» .entry)) (now («test_owners» .entry)) (now («trial_owners» .entry)) (now (work .entry))) entries
         (callsOf (now (calls .entry)) (now (pool .entry)) (callCount (now (calls .entry)) (now (answers .entry)))) (now (matrix .entry)) (entryLists (now (rows .entry)) (now (columns .entry)) (now (values .entry))) (now (answers .entry)) ⌝ }
     ensures { λ _. ⌜ listsOf (now («test_dofs» .exit)) (now («trial_dofs» .exit)) (now («test_colours» .exit)) (now («trial_colours» .exit)) (now («test_owners» .exit)) (now («trial_owners» .exit)) (now (work .exit))
-        ≡ planLists (planningWith (meshOf sizes (now («cell_vertices» .entry)) (now («cell_edges» .entry))) assembly)
+        ≡ planLists (planningWith (meshWith sizes (now (kinds .entry)) (now («cell_vertices» .entry)) (now («cell_edges» .entry))) assembly)
         (listsOf (now («test_dofs» .entry)) (now («trial_dofs» .entry)) (now («test_colours» .entry)) (now («trial_colours» .entry)) (now («test_owners» .entry)) (now («trial_owners» .entry)) (now (work .entry))) ⌝ }
 {
     let planned = plan(
         sizes,
+        kinds,
         cell_vertices,
         cell_edges,
         assembly,
@@ -365,6 +377,7 @@ pub fn replay(
             let n = call_count(calls, answers);
             let run = play_calls(
                 begin_run(numbers, entries),
+                kinds,
                 test_dofs,
                 trial_dofs,
                 work,

@@ -40,6 +40,18 @@ pub fn call_room<'a>(list: &'a mut [usize], lengths: &[u32; 20], i: usize) -> &'
     &mut list[start..n]
 }
 
+// The same of kinds.
+pub fn kind_room<'a>(list: &'a mut [u8], lengths: &[u32; 20], i: usize) -> &'a mut [u8]
+    requires { ⌜ i ≤ 19 ⌝ }
+{
+    let n = wide(lengths[i]);
+    if list.len() < n {
+        return list;
+    }
+    let start = 0;
+    &mut list[start..n]
+}
+
 // The same of row starts.
 pub fn start_room<'a>(list: &'a mut [u64], lengths: &[u32; 20], i: usize) -> &'a mut [u64]
     requires { ⌜ i ≤ 15 ⌝ }

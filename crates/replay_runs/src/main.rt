@@ -10,12 +10,14 @@ use crate::cases::Case;
 use crate::cases::read_case;
 use crate::lists::call_room;
 use crate::lists::float_room;
+use crate::lists::kind_room;
 use crate::lists::read_calls;
 use crate::lists::room;
 use crate::sparse::rows_agree;
 use libc::STDOUT_FILENO;
 use recorded::at_end;
 use recorded::read_floats;
+use recorded::read_kinds;
 use recorded::read_numbers;
 use recorded::read_word;
 use recorded::same_floats;
@@ -92,8 +94,9 @@ fn print_case(case: Case, lengths: &[u32; 20], agrees: bool) {
 fn case_agrees(fd: i32) -> bool {
     let case = read_case(fd);
     let mut lengths = [0u32; 20];
-    let mut cell_vertices = [0u32; 24];
-    let mut cell_edges = [0u32; 24];
+    let mut kinds = [0u8; 9];
+    let mut cell_vertices = [0u32; 32];
+    let mut cell_edges = [0u32; 32];
     let mut test_dofs = [0u32; 80];
     let mut trial_dofs = [0u32; 80];
     let mut test_colours = [0u32; 8];
@@ -109,6 +112,7 @@ fn case_agrees(fd: i32) -> bool {
     let mut columns = [65535u32; 600];
     let mut values = [0.5; 600];
     read_numbers(fd, &mut lengths);
+    let kinds = kind_room(&mut kinds, &lengths, 18);
     let cell_vertices = room(&mut cell_vertices, &lengths, 0);
     let cell_edges = room(&mut cell_edges, &lengths, 0);
     let test_dofs = room(&mut test_dofs, &lengths, 1);
@@ -125,6 +129,7 @@ fn case_agrees(fd: i32) -> bool {
     let rows = room(&mut rows, &lengths, 10);
     let columns = room(&mut columns, &lengths, 10);
     let values = float_room(&mut values, &lengths, 10);
+    read_kinds(fd, kinds);
     read_numbers(fd, cell_vertices);
     read_numbers(fd, cell_edges);
     read_calls(fd, calls, &lengths);
@@ -132,6 +137,7 @@ fn case_agrees(fd: i32) -> bool {
     read_floats(fd, matrix);
     let answer = replay(
         case.sizes,
+        kinds,
         cell_vertices,
         cell_edges,
         case.assembly,

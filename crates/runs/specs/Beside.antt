@@ -1,21 +1,26 @@
 -- The program beside the machine: on any list of calls, along any list of records that is as `Along` asks, begun from planning's numbers, the program's
 -- answers, position, matrix and entry lists are the machine's. Assumes nothing.
-use Prim.Native.Nat.{ℕ, zero, suc, _+_, _*_, _≤_, _<_}
+use Prim.Native.Nat.{ℕ, zero, suc, _+_, _-_, _*_, _≤_, _<_}
 use native.Mathlib.Omega.{arith}
-use mathlib.Core.Path.{_≡_, refl, sym, ap, _∙_}
+use mathlib.Core.Path.{_≡_, refl, sym, ap, ap₂, _∙_}
 use mathlib.Core.Bool.{Bool, true, false, not, cond}
 use mathlib.Core.Logic.{⊎-elim}
 use mathlib.Core.List.{List, [], _∷_, _++_}
-use lib.ListN.{length, getD}
+use lib.ListN.{length, getD, take, drop, length-take, length-drop}
+use lib.Seq.{getD-take, getD-drop}
 use lib.Dec.{leb, eqb}
 use lib.Ieee.{Float}
 use borrow.Author.Tests.{le-leb, lt-ltb, eq-eqb, eqb-false, not-true}
-use Rattle.lists.specs.Bool.{_and_, _or_, every, every-at, every-of, end, _also_, true≢false, or-left, or-right, cases}
+use Rattle.lists.specs.Bool.{_and_, _or_, every, every-at, every-of, end, _also_, and-both, true≢false, or-left, or-right, cases}
+use Rattle.lists.specs.Bounded.{lt-or-le}
 use Rattle.lists.specs.Fold.{over-agree}
+use Rattle.lists.specs.Range.{AllIn, all-in-places}
 use Rattle.lists.specs.Refusals.{Check, check, refusal, unless, refusal-at}
-use Rattle.grid.specs.Mesh.{cellsRight, verticesRight, edgesRight}
+use Rattle.lists.specs.Total.{total}
+use Rattle.grid.specs.Mesh.{kind, cellsOf, kindsMatch, cellsRight, verticesRight, edgesRight}
 use Rattle.numbers.specs.Ranges.{allBelow}
-use Rattle.function.specs.Elements.{dim}
+use Rattle.function.specs.declared.Elements.{Elements}
+use Rattle.function.specs.Elements.{cellDim}
 use Rattle.dof_numbering.specs.Numbering.{dofList, dofCount}
 use Rattle.cell_pairs.specs.Patterns.{touch}
 use Rattle.lent_numbers.specs.Lent.{Touching, Distant}
@@ -23,21 +28,24 @@ use Rattle.lent_numbers.specs.Entries.{touchingEntry, distantEntry}
 use Rattle.scatter.specs.Adding.{addLocal}
 use Rattle.cell_pairs.specs.declared.WorkRecord.{WorkRecord}
 use Rattle.cell_pairs.specs.Records.{width, rec, flat, recordAt}
-use Rattle.cell_pairs.specs.WorkList.{distantPairs}
+use Rattle.cell_pairs.specs.WorkList.{sharingPairs, distantPairs}
 use Rattle.cell_pairs.specs.RecordsFacts.{flat-at, length-flat}
-use Rattle.cell_pairs.specs.Counting.{split}
+use Rattle.cell_pairs.specs.Counting.{split, kinds-split}
+use Rattle.cell_pairs.specs.Blocks.{blocksOf, blockAt, Blocked}
+use Rattle.cell_pairs.specs.BlocksFacts.{blocked-kinds, blocked-entries}
 use Rattle.plans.specs.Planning.{Planning, Lists, planNumbers, unlessRefused, testSpace, trialSpace}
-use Rattle.plans.specs.Accepted.{dofs-long, dofs-few, Accepted}
-use Rattle.runs.specs.Runs.{Run, Plan, EntryLists, Answer, found, answered, begin, beginEntries, begun, recordOf, testDofsOf, trialDofsOf, written, cellDofs, isTouching, isDistant, rangesRight, placesRight, planRight, matrixRight, entriesRight, pairLeft, recordKnown, recordRight, stateChecks, lookRefusal, distantRefusal, touchingRefusal, entriesRefusal, advance, look, addDistant, addTouching, addEntries, distantMatrix, touchingMatrix, entriesWritten}
-use Rattle.runs.specs.CellDofs.{cell-below}
+use Rattle.plans.specs.Accepted.{dofs-long, dofs-few, Accepted, counted, test-fits, trial-fits}
+use Rattle.runs.specs.Runs.{Run, Plan, EntryLists, Answer, found, answered, begin, beginEntries, begun, recordOf, testDofsOf, trialDofsOf, written, cellDofs, isTouching, isDistant, rangesRight, countsRight, kindsFit, planRight, kindsPut, kindDim, entriesOn, entriesTo, matrixRight, entriesRight, pairLeft, recordKnown, recordRight, stateChecks, lookRefusal, distantRefusal, touchingRefusal, entriesRefusal, advance, look, addDistant, addTouching, addEntries, distantMatrix, touchingMatrix, entriesWritten}
+use Rattle.runs.specs.CellDofs.{kind-dim, cell-below}
 use Rattle.runs.specs.Calls.{Call, looks, addsDistant, addsTouching, addsEntries, Progress, replyTo, matrixAfter, listsAfter, call, callAll}
-use Rattle.runs.specs.Machine.{Machine, machineAlong, State, recordNo, listsSized, callChecks, addPair, writePair, callRefusal, machineStep, fresh, machineRun}
+use Rattle.runs.specs.Machine.{Machine, machineAlong, State, recordNo, entriesTo as entriesUpTo, listsSized, callChecks, addPair, writePair, callRefusal, machineStep, fresh, machineRun}
 
 -- C·C
 abbrev pub pairCount : Planning → ℕ
 pairCount x = x .mesh .cells * x .mesh .cells
 
--- What the theorem asks of a list of records: there are C·C, of cells of the mesh, and a pattern says whether its cells share a vertex
+-- What the theorem asks of a list of records: there are C·C, of cells of the mesh, a pattern says whether its cells share a vertex, and those from N on come
+-- block after block of the pattern table
 pub record Along (x : Planning) (W : List WorkRecord) : Type 0 where
   pub long : length W ≡ pairCount x
   pub test : (p : ℕ) → p < pairCount x → getD W p (rec 0 0 0) .test < x .mesh .cells
@@ -46,12 +54,13 @@ pub record Along (x : Planning) (W : List WorkRecord) : Type 0 where
       → isDistant (getD W p (rec 0 0 0) .pattern) ≡ not (touch (x .mesh) (getD W p (rec 0 0 0) .test) (getD W p (rec 0 0 0) .trial))
   pub touching : (p : ℕ) → p < pairCount x
       → isTouching (getD W p (rec 0 0 0) .pattern) ≡ touch (x .mesh) (getD W p (rec 0 0 0) .test) (getD W p (rec 0 0 0) .trial)
+  pub blocked : Blocked (x .mesh) (blocksOf (x .mesh)) (drop (distantPairs (x .mesh)) W)
 
 -- the plan along the list, and a run of either kind begun from planning's numbers
 unfoldable pub planAlong : Planning → List WorkRecord → Plan
 planAlong x W =
     let C = x .mesh .cells in
-    record { testDofs = dofList (testSpace x) C; trialDofs = dofList (trialSpace x) C; work = flat W }
+    record { kinds = x .mesh .kinds; testDofs = dofList (testSpace x) C; trialDofs = dofList (trialSpace x) C; work = flat W }
 
 unfoldable pub runAt : Planning → Bool → ℕ → Run
 runAt x entries p = record { numbers = planNumbers x; entries = entries; position = p }
@@ -85,6 +94,12 @@ still-below p n h left =
     let other : p ≡ n → ⊥ = eqb-false p n (not-true (eqb p n) left) in
     omega arith
 
+-- a sum is the same where each of its terms is
+total-each : {A : Type 0} (m m′ : A → ℕ) (xs : List A) → AllIn (λ x. m x ≡ m′ x) xs → total m xs ≡ total m′ xs
+unfolding total AllIn
+total-each m m′ [] e = refl
+total-each m m′ (x ∷ xs) e = ap₂ _+_ (e .0) (total-each m m′ xs (e .1))
+
 -- progress is equal part by part
 progress-is : {r r′ : Run} {M M′ : List Float} {e e′ : EntryLists} {A A′ : List Answer} → r ≡ r′ → M ≡ M′ → e ≡ e′ → A ≡ A′
     → _≡_ {A = Progress} (record { run = r; matrix = M; lists = e; answers = A }) (record { run = r′; matrix = M′; lists = e′; answers = A′ })
@@ -93,6 +108,9 @@ progress-is e f g h = rw (e, f, g, h)
 module _ (x : Planning) (l : Lists) (ok : Accepted x l) (W : List WorkRecord) (along : Along x W) (entries : Bool) where
   abbrev C : ℕ
   C = x .mesh .cells
+
+  abbrev N : ℕ
+  N = distantPairs (x .mesh)
 
   abbrev m : Machine
   m = machineAlong x W entries
@@ -104,24 +122,28 @@ module _ (x : Planning) (l : Lists) (ok : Accepted x l) (W : List WorkRecord) (a
   ranges-right p =
       every-of (ok .cells also every-at _ (ok .vertices) 0 also every-at _ (ok .edges) 0 also ok .dims also ok .integrand also end)
 
-  places-right : (p : ℕ) → Between x entries p → placesRight (runAt x entries p) ≡ true
-  unfolding placesRight runAt planNumbers
-  places-right p h =
-      let most : distantPairs (x .mesh) ≤ pairCount x = omega (arith, split (x .mesh)) in
+  counts-right : (p : ℕ) → Between x entries p → countsRight (runAt x entries p) ≡ true
+  unfolding countsRight runAt planNumbers
+  counts-right p h =
       every-of
-      (le-leb _ _ (h .to) also le-leb _ _ most also kind-right entries (h .from) also le-leb _ _ (dofs-few ok (x .test))
-      also le-leb _ _ (dofs-few ok (x .trial)) also end)
+      (eq-eqb _ _ (kinds-split (x .mesh) (counted ok .mesh .kinds)) also eq-eqb _ _ (split (x .mesh)) also le-leb _ _ (h .to) also kind-right entries (h .from) also end)
     where
       -- an entries run has p from N on
       kind-right : (b : Bool) → (b ≡ true → distantPairs (x .mesh) ≤ p) → not b or leb (distantPairs (x .mesh)) p ≡ true
       kind-right false f = or-left _ _ refl
       kind-right true f = or-right _ _ (le-leb _ _ (f refl))
 
+  kinds-fit : (p : ℕ) → kindsFit (runAt x entries p) (planAlong x W) ≡ true
+  unfolding kindsFit kindsMatch runAt planNumbers planAlong
+  kinds-fit p = every-of (ok .kinds also eq-eqb (cellsOf (x .mesh .kinds) 3) _ refl also eq-eqb (cellsOf (x .mesh .kinds) 4) _ refl also end)
+
   plan-right : (p : ℕ) → planRight (runAt x entries p) (planAlong x W) ≡ true
   unfolding planRight runAt planNumbers planAlong
   plan-right p =
       let all-pairs : length (flat W) ≡ width * pairCount x = length-flat W ∙ ap (λ (n : ℕ). width * n) (along .long) in
-      every-of (eq-eqb _ _ (dofs-long ok (x .test)) also eq-eqb _ _ (dofs-long ok (x .trial)) also eq-eqb _ _ all-pairs also end)
+      every-of
+      (le-leb _ _ (dofs-few ok (x .test) (test-fits ok)) also le-leb _ _ (dofs-few ok (x .trial) (trial-fits ok))
+      also eq-eqb _ _ (dofs-long ok (x .test) (test-fits ok)) also eq-eqb _ _ (dofs-long ok (x .trial) (trial-fits ok)) also eq-eqb _ _ all-pairs also end)
 
   module _ (p : ℕ) (below : p < pairCount x) where
     -- what the program reads is record p
@@ -135,13 +157,13 @@ module _ (x : Planning) (l : Lists) (ok : Accepted x l) (W : List WorkRecord) (a
         ⊎-elim (λ t. or-left _ _ (along .touching p below ∙ t)) (λ f. or-right _ _ (along .distant p below ∙ ap not f))
         (cases (touch (x .mesh) (getD W p (rec 0 0 0) .test) (getD W p (rec 0 0 0) .trial)))
 
-    test-below : allBelow (cellDofs (planAlong x W .testDofs) (dim (x .test)) (getD W p (rec 0 0 0) .test)) (dofCount (testSpace x) C) ≡ true
+    test-below : allBelow (cellDofs (planAlong x W .kinds) (x .test) (planAlong x W .testDofs) (getD W p (rec 0 0 0) .test)) (dofCount (testSpace x) C) ≡ true
     unfolding planAlong
-    test-below = cell-below ok (x .test) _ (along .test p below)
+    test-below = cell-below ok (x .test) (test-fits ok) _
 
-    trial-below : allBelow (cellDofs (planAlong x W .trialDofs) (dim (x .trial)) (getD W p (rec 0 0 0) .trial)) (dofCount (trialSpace x) C) ≡ true
+    trial-below : allBelow (cellDofs (planAlong x W .kinds) (x .trial) (planAlong x W .trialDofs) (getD W p (rec 0 0 0) .trial)) (dofCount (trialSpace x) C) ≡ true
     unfolding planAlong
-    trial-below = cell-below ok (x .trial) _ (along .trial p below)
+    trial-below = cell-below ok (x .trial) (trial-fits ok) _
 
     record-right : recordRight (runAt x entries p) (planAlong x W) ≡ true
     unfolding recordRight recordKnown runAt planNumbers
@@ -149,13 +171,59 @@ module _ (x : Planning) (l : Lists) (ok : Accepted x l) (W : List WorkRecord) (a
         rw record-is
         (every-of (every-of (pattern-right also lt-ltb _ _ (along .test p below) also lt-ltb _ _ (along .trial p below) also end) also test-below also trial-below also end))
 
+    -- the numbers put cells of its kinds there, where they put any
+    kinds-put : kindsPut (runAt x entries p) (planAlong x W) ≡ true
+    unfolding kindsPut runAt planNumbers planAlong
+    kinds-put = ⊎-elim (λ h. or-left _ _ (lt-ltb _ _ h)) (λ h. or-right _ _ (rw record-is (put h))) (lt-or-le p N)
+      where
+        put : N ≤ p
+            → (let b = blockAt (blocksOf (x .mesh)) (p - N) in
+            eqb (kind (x .mesh) (getD W p (rec 0 0 0) .test)) (b .testKind) and eqb (kind (x .mesh) (getD W p (rec 0 0 0) .trial)) (b .trialKind) ≡ true)
+        put h =
+            let place : N + (p - N) ≡ p = omega arith in
+            let here : getD (drop N W) (p - N) (rec 0 0 0) ≡ getD W p (rec 0 0 0) = getD-drop N W (p - N) (rec 0 0 0) ∙ ap (λ (k : ℕ). getD W k (rec 0 0 0)) place in
+            let inside : p - N < length (drop N W) = omega (arith, length-drop N W, along .long) in
+            let kinds = blocked-kinds (x .mesh) (blocksOf (x .mesh)) (drop N W) (along .blocked) (p - N) inside in
+            rw (← here) (and-both _ _ (eq-eqb _ _ (kinds .test)) (eq-eqb _ _ (kinds .trial)))
+
+    put-passes : (rest : List Check) → refusal (check 22 (kindsPut (runAt x entries p) (planAlong x W)) ∷ rest) ≡ refusal rest
+    unfolding refusal unless
+    put-passes rest = rw kinds-put
+
+  -- a cell's kind has cells, so that its dim is read
+  dim-read : (i : ℕ) → i < C → (es : Elements) → kindDim (planNumbers x) es (kind (x .mesh) i) ≡ cellDim es (kind (x .mesh) i)
+  unfolding kindsFit runAt planNumbers planAlong
+  dim-read i h es = kind-dim (planNumbers x) (x .mesh .kinds) (kinds-fit 0) i h es
+
+  -- so the numbers say how many entries the first touching records have
+  same-entries : (q : ℕ) → entriesTo (planNumbers x) q ≡ entriesUpTo m q
+  unfolding planNumbers machineAlong entriesUpTo
+  same-entries q =
+      blocked-entries (x .mesh) _ (blocksOf (x .mesh)) (drop N W) (along .blocked) q
+      ∙ total-each _ _ (take q (drop N W)) (all-in-places _ (take q (drop N W)) (rec 0 0 0) each)
+    where
+      each : (k : ℕ) → k < length (take q (drop N W))
+          → (let e = getD (take q (drop N W)) k (rec 0 0 0) in
+          entriesOn (planNumbers x) (kind (x .mesh) (e .test)) (kind (x .mesh) (e .trial)) ≡ m .testDim (e .test) * m .trialDim (e .trial))
+      each k h =
+          let inside : k < q = omega (arith, length-take q (drop N W)) in
+          let below : N + k < pairCount x = omega (arith, length-take q (drop N W), length-drop N W, along .long) in
+          let here : getD (take q (drop N W)) k (rec 0 0 0) ≡ getD W (N + k) (rec 0 0 0) = getD-take q (drop N W) k (rec 0 0 0) inside ∙ getD-drop N W k (rec 0 0 0) in
+          rw here (ap₂ _*_ (dim-read _ (along .test (N + k) below) (x .test)) (dim-read _ (along .trial (N + k) below) (x .trial)))
+
+  lists-same : (p : ℕ) (e : EntryLists) → entriesRight (runAt x entries p) e ≡ listsSized m e
+  unfolding entriesRight listsSized runAt machineAlong planNumbers
+  lists-same p e =
+      let all : sharingPairs (x .mesh) ≡ pairCount x - N = omega (arith, split (x .mesh)) in
+      rw (same-entries (sharingPairs (x .mesh)), all)
+
   -- ---- so 21, 20 and 22 come to the machine's checks, and 23 and the rest answer only at a pair
 
   same-checks : (p : ℕ) → Between x entries p → (sized : Bool) (rest rest′ : List Check) → (p < pairCount x → refusal rest ≡ refusal rest′)
       → refusal (stateChecks (runAt x entries p) (planAlong x W) sized ++ rest) ≡ refusal (check 21 sized ∷ check 20 (not (eqb p (pairCount x))) ∷ rest′)
   unfolding refusal unless pairLeft runAt planNumbers every _and_
   same-checks p h sized rest rest′ k =
-      rw (ranges-right p, places-right p h, plan-right p) (go sized (eqb p (pairCount x)) refl)
+      rw (ranges-right p, counts-right p h, kinds-fit p, plan-right p) (go sized (eqb p (pairCount x)) refl)
     where
       go : (s e : Bool) → eqb p (pairCount x) ≡ e
           → unless s 21 (unless (not e) 20 (unless (recordRight (runAt x entries p) (planAlong x W)) 22 (refusal rest)))
@@ -179,16 +247,16 @@ module _ (x : Planning) (l : Lists) (ok : Accepted x l) (W : List WorkRecord) (a
     look-same = same-checks p h true [] [] (λ _. refl)
 
     distant-same : (a : Distant) → distantRefusal (q .run) (planAlong x W) (s .matrix) a ≡ callRefusal m (addsDistant a) s
-    unfolding distantRefusal callRefusal callChecks machineAlong matrixRight runAt planNumbers
+    unfolding distantRefusal callRefusal callChecks machineAlong matrixRight runAt planNumbers planAlong
     distant-same a = same-checks p h _ _ _ (λ below. rw (record-is p below, along .distant p below))
 
     touching-same : (a : Touching) → touchingRefusal (q .run) (planAlong x W) (s .matrix) a ≡ callRefusal m (addsTouching a) s
-    unfolding touchingRefusal callRefusal callChecks machineAlong matrixRight runAt planNumbers
+    unfolding touchingRefusal callRefusal callChecks machineAlong matrixRight runAt planNumbers planAlong
     touching-same a = same-checks p h _ _ _ (λ below. rw (record-is p below, along .touching p below))
 
     entries-same : (a : Touching) → entriesRefusal (q .run) (planAlong x W) (s .lists) a ≡ callRefusal m (addsEntries a) s
-    unfolding entriesRefusal callRefusal callChecks machineAlong entriesRight listsSized runAt planNumbers
-    entries-same a = same-checks p h _ _ _ (λ below. rw (record-is p below, along .touching p below))
+    unfolding entriesRefusal callRefusal callChecks machineAlong runAt planNumbers planAlong
+    entries-same a = rw (lists-same p (s .lists)) (same-checks p h _ _ _ (λ below. put-passes p below _ ∙ rw (record-is p below, along .touching p below)))
 
     -- an accepted call is at a pair
     accepted-below : (c : Call) → callRefusal m c s ≡ 0 → p < pairCount x
@@ -223,7 +291,7 @@ module _ (x : Planning) (l : Lists) (ok : Accepted x l) (W : List WorkRecord) (a
     entries-written : (a : Touching)
         → written r (planAlong x W) (touchingEntry (r .numbers .integrand) a) (s .lists) ≡ writePair m (s .position) (addsEntries a) (s .lists)
     unfolding writePair machineAlong runAt planNumbers planAlong
-    entries-written a = rw (record-is (s .position) below)
+    entries-written a = rw (record-is (s .position) below, same-entries (s .position - N))
 
   -- ---- one call
 

@@ -19,9 +19,9 @@ use Rattle.runs.specs.Calls.{Call, looks, addsEntries, Progress, callAll
 use Rattle.runs.specs.Machine.{machineAlong, machineOf, listsSized, addPair, writePair, fresh, machineRun}
 use Rattle.runs.specs.Beside.{runAt, embed}
 use Rattle.runs.specs.Listed.{planIn, machine-beside, machine-between}
-use Rattle.runs.specs.Reading.{isAccepted, acceptances, taken, lentTo, answerAt, recordRows, recordColumns, callValues, entriesOf}
+use Rattle.runs.specs.Reading.{acceptances, taken, lentTo, answerAt, recordRows, recordColumns, recordValues, entriesOf}
 use Rattle.runs.specs.ReadingFacts.{reading, pairsFrom, look-answer}
-use Rattle.runs.specs.EntriesFacts.{taken-entries, accepted-sized, accepted-one, some-touching, entries-keep, entries-written, touching-long, entries-all}
+use Rattle.runs.specs.EntriesFacts.{taken-entries, some-sized, some-touching, entries-keep, entries-written, touching-long, entries-all}
 
 pub record EntriesProperty (x : Planning) (calls : List Call) (M : List Float) (lists : EntryLists) (q : Progress) : Type 0 where
   -- every answer, the run, every number of the matrix and of the entry lists are those of the machine of the mesh
@@ -42,7 +42,7 @@ pub record EntriesProperty (x : Planning) (calls : List Call) (M : List Float) (
       → (let m = machineOf x true in
       q .lists
       ≡ entryLists (flatMap (recordRows m) (touchingPart (x .mesh))) (flatMap (recordColumns m) (touchingPart (x .mesh)))
-      (flatMap (callValues m) (lentTo (taken calls (q .answers)))))
+      (recordValues m (touchingPart (x .mesh)) (lentTo (taken calls (q .answers)))))
   -- each look answers the record at the position that the acceptances before it give, or 20 where that is C·C
   pub looked : (k : ℕ) → k < length calls → getD calls k looks ≡ looks
       → (let p = distantPairs (x .mesh) + acceptances (take k (q .answers)) in
@@ -69,8 +69,7 @@ module _ (x : Planning) (l : Lists) (n : PlanNumbers) (e : plan x l ≡ ready n)
       r .lists ∙ ap (λ (cs : List Call). pairsFrom (writePair m) (distantPairs (x .mesh)) cs lists) only
       ∙ entries-written ok lists ws (omega (arith, many, most, r .position, touching-long ok)) in
       let enough : 0 < length ws → listsSized m lists ≡ true =
-      λ some. (let first = accepted-one answers (omega (arith, many)) in
-      accepted-sized m refl _ M lists _ (ap isAccepted (sym (r .each (first .0) (omega (arith, first .1, r .answered)))) ∙ first .2)) in
+      λ some. some-sized m refl calls M lists answers _ (λ k h. r .each k (omega (arith, r .answered))) (omega (arith, many)) in
       rw same
       (record {
         machine = refl;
@@ -87,5 +86,5 @@ module _ (x : Planning) (l : Lists) (n : PlanNumbers) (e : plan x l ≡ ready n)
         each = r .each;
       })
 
-  pub entries-property : EntriesProperty x calls M lists (callAll (planIn (planLists x l)) calls (beginEntries n) M lists)
+  pub entries-property : EntriesProperty x calls M lists (callAll (planIn x (planLists x l)) calls (beginEntries n) M lists)
   entries-property = property _ (machine-beside x l n e true calls M lists)

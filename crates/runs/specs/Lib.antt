@@ -1,6 +1,6 @@
--- The run's calls (`Runs`), what they answer on one cell (`Examples`), lists of them as the program takes them (`Calls`), that a refused call changes nothing
--- (`Refused`), the machine that a run is set beside (`Machine`), the program beside it (`Beside` with `CellDofs`, along the list of planning in `Listed`), how a
--- run is read (`Reading`, `ReadingFacts`), the third property (`ThirdProperty`) and the like of an entries run (`EntriesFacts`, `EntriesProperty`).
+-- The run's calls (`Runs`), what they answer on one cell and on two of both kinds (`Examples`), lists of them as the program takes them (`Calls`), that a refused
+-- call changes nothing (`Refused`), the machine that a run is set beside (`Machine`), the program beside it (`Beside` with `CellDofs`, along the list of planning in
+-- `Listed`), how a run is read (`Reading`, `ReadingFacts`), the third property (`ThirdProperty`) and the like of an entries run (`EntriesFacts`, `EntriesProperty`).
 pub mod Runs
 pub mod Examples
 pub mod Calls

@@ -1,18 +1,21 @@
 -- The work list of planning is one that the program can be set beside the machine along; so it is from what planning answers and leaves. Assumes nothing.
 use Prim.Native.Nat.{ℕ, _<_}
 use native.Mathlib.Omega.{arith}
-use mathlib.Core.Path.{_≡_, sym, ap, _∙_}
+use mathlib.Core.Path.{_≡_, sym, ap, subst, _∙_}
 use mathlib.Core.Bool.{Bool, false, not}
 use mathlib.Core.Logic.{⊎-elim}
 use mathlib.Core.List.{List}
-use lib.ListN.{getD}
+use lib.ListN.{getD, drop}
+use lib.Seq.{drop-append-seam}
 use lib.Ieee.{Float}
 use borrow.Author.Tests.{lt-ltb, le-ltb, eq-eqb, ne-eqb}
 use Rattle.lists.specs.Bounded.{lt-or-le}
 use Rattle.cell_pairs.specs.Records.{rec, patternCount, distantPattern}
-use Rattle.cell_pairs.specs.WorkList.{distantPairs}
+use Rattle.cell_pairs.specs.WorkList.{distantPart, touchingPart, workList, distantPairs}
+use Rattle.cell_pairs.specs.Blocks.{blocksOf, Blocked}
+use Rattle.cell_pairs.specs.BlocksFacts.{touching-blocked}
 use Rattle.cell_pairs.specs.WorkRecords.{Distant, Touching}
-use Rattle.cell_pairs.specs.Counting.{length-work, record-distant, record-touching, records-right}
+use Rattle.cell_pairs.specs.Counting.{length-distant, length-work, record-distant, record-touching, records-right}
 use Rattle.plans.specs.declared.PlanNumbers.{PlanNumbers}
 use Rattle.plans.specs.declared.Planned.the-variants.{Ready as ready}
 use Rattle.plans.specs.Planning.{Planning, Lists, plan, planRefusal, planLists, writtenLists, workRecords}
@@ -30,6 +33,13 @@ near-distant q h = ne-eqb q distantPattern (λ (e : q ≡ distantPattern). omega
 far-touching : (q : ℕ) → q ≡ distantPattern → isTouching q ≡ false
 far-touching q e = le-ltb q patternCount (omega arith)
 
+-- the records from N on are the touching ones
+pub touching-behind : {x : Planning} {l : Lists} → Accepted x l → drop (distantPairs (x .mesh)) (workRecords x) ≡ touchingPart (x .mesh)
+unfolding workList
+touching-behind {x} ok =
+    ap (λ (n : ℕ). drop n (workRecords x)) (sym (length-distant (x .mesh) (x .batch) _ _ (counted ok)))
+    ∙ drop-append-seam (distantPart (x .mesh) (x .batch) _ _) (touchingPart (x .mesh))
+
 pub listed : {x : Planning} {l : Lists} → Accepted x l → Along x (workRecords x)
 listed {x} ok =
     record {
@@ -40,6 +50,7 @@ listed {x} ok =
           kind p below _ (λ d. eq-eqb _ _ (d .marked) ∙ sym (ap not (d .apart))) (λ t. near-distant _ (t .known) ∙ sym (ap not (t .meet)));
       touching = λ p below.
           kind p below _ (λ d. far-touching _ (d .marked) ∙ sym (d .apart)) (λ t. lt-ltb _ _ (t .known) ∙ sym (t .meet));
+      blocked = subst (Blocked (x .mesh) (blocksOf (x .mesh))) (sym (touching-behind ok)) (touching-blocked (x .mesh) (counted ok .mesh));
     }
   where
     -- the first N records are distant, those that follow are touching
@@ -48,18 +59,18 @@ listed {x} ok =
         ⊎-elim (λ h. far (record-distant (x .mesh) (x .batch) _ _ (counted ok) p h)) (λ h. near (record-touching (x .mesh) (x .batch) _ _ (counted ok) p h below))
         (lt-or-le p (distantPairs (x .mesh)))
 
--- the plan that planning leaves in the lists
-abbrev pub planIn : Lists → Plan
-planIn l = planOf (l .testDofs) (l .trialDofs) (l .work)
+-- the plan that planning leaves: the kind list that it was given, and three of the lists
+abbrev pub planIn : Planning → Lists → Plan
+planIn x l = planOf (x .mesh .kinds) (l .testDofs) (l .trialDofs) (l .work)
 
-plan-left : (x : Planning) (l : Lists) → planRefusal x l ≡ 0 → planIn (planLists x l) ≡ planAlong x (workRecords x)
+plan-left : (x : Planning) (l : Lists) → planRefusal x l ≡ 0 → planIn x (planLists x l) ≡ planAlong x (workRecords x)
 unfolding planLists writtenLists planAlong
 plan-left x l e = rw e
 
 module _ (x : Planning) (l : Lists) (n : PlanNumbers) (e : plan x l ≡ ready n) (entries : Bool) (calls : List Call) (M : List Float) (lists : EntryLists) where
   -- For all planning arguments that planning accepts, a run of either kind begun from its numbers, every starting matrix, any three starting lists and every
   -- list of calls: folding what the contracts say, on the plan that planning leaves, gives answers, position, matrix and lists of the machine of the mesh
-  pub machine-beside : callAll (planIn (planLists x l)) calls (begun entries n) M lists ≡ embed x entries (machineRun (machineOf x entries) calls M lists)
+  pub machine-beside : callAll (planIn x (planLists x l)) calls (begun entries n) M lists ≡ embed x entries (machineRun (machineOf x entries) calls M lists)
   machine-beside =
       let r = ready-is e in
       let ok : Accepted x l = accepted x l (r .none) in

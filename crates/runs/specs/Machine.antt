@@ -3,15 +3,17 @@
 use Prim.Native.Nat.{ℕ, _+_, _-_, _*_}
 use mathlib.Core.Bool.{Bool, not, cond}
 use mathlib.Core.List.{List, [], _∷_, _++_}
-use lib.ListN.{length, getD}
+use lib.ListN.{length, getD, take, drop}
 use lib.Seq.{sets}
 use lib.Dec.{eqb}
 use lib.Ieee.{Float}
 use Rattle.lists.specs.Bool.{_and_, every}
 use Rattle.lists.specs.Fold.{over}
+use Rattle.lists.specs.Total.{total}
 use Rattle.lists.specs.Refusals.{Check, check, refusal}
 use Rattle.cell_pairs.specs.Patterns.{touch}
-use Rattle.function.specs.Elements.{dim}
+use Rattle.grid.specs.Mesh.{kind}
+use Rattle.function.specs.Elements.{cellDim}
 use Rattle.dof_numbering.specs.Numbering.{dofList, dofCount}
 use Rattle.integrands.specs.declared.Integrand.{Integrand}
 use Rattle.lent_numbers.specs.Lent.{touchingChecks, distantChecks}
@@ -32,11 +34,11 @@ pub record Machine : Type 0 where
   pub distant : ℕ
   -- a pair whose cells share a vertex is touching, any other distant
   pub touches : ℕ → ℕ → Bool
-  -- the DOF numbers of a cell, for the test and for the trial element
+  -- the DOF numbers of a cell, on the test and on the trial side, and how many they are: the dim on a cell of its kind
   pub testDofs : ℕ → List ℕ
   pub trialDofs : ℕ → List ℕ
-  pub testDim : ℕ
-  pub trialDim : ℕ
+  pub testDim : ℕ → ℕ
+  pub trialDim : ℕ → ℕ
   -- the sizes of the matrix
   pub rows : ℕ
   pub columns : ℕ
@@ -53,10 +55,10 @@ machineAlong x W entries =
       pairs = C * C;
       distant = distantPairs (x .mesh);
       touches = touch (x .mesh);
-      testDofs = cellDofs (dofList (testSpace x) C) (dim (x .test));
-      trialDofs = cellDofs (dofList (trialSpace x) C) (dim (x .trial));
-      testDim = dim (x .test);
-      trialDim = dim (x .trial);
+      testDofs = cellDofs (x .mesh .kinds) (x .test) (dofList (testSpace x) C);
+      trialDofs = cellDofs (x .mesh .kinds) (x .trial) (dofList (trialSpace x) C);
+      testDim = λ i. cellDim (x .test) (kind (x .mesh) i);
+      trialDim = λ i. cellDim (x .trial) (kind (x .mesh) i);
       rows = dofCount (testSpace x) C;
       columns = dofCount (trialSpace x) C;
       integrand = x .integrand;
@@ -82,6 +84,17 @@ module _ (m : Machine) where
   abbrev pub touchingNo : ℕ → Bool
   touchingNo p = m .touches (recordNo p .test) (recordNo p .trial)
 
+  -- the dims of pair p
+  abbrev pub testDimNo : ℕ → ℕ
+  testDimNo p = m .testDim (recordNo p .test)
+
+  abbrev pub trialDimNo : ℕ → ℕ
+  trialDimNo p = m .trialDim (recordNo p .trial)
+
+  -- entries stand record after record, test dim · trial dim of each: so many are those of the first q touching records
+  unfoldable pub entriesTo : ℕ → ℕ
+  entriesTo q = total (λ e. m .testDim (e .test) * m .trialDim (e .trial)) (take q (drop (m .distant) (m .work)))
+
   -- ---- the checks of a call at position p. (What else 21 and 22 read, the machine's own numbers, records and DOFs, always passes.)
 
   -- 20: p = C·C
@@ -92,10 +105,10 @@ module _ (m : Machine) where
   abbrev pub matrixSized : List Float → Bool
   matrixSized M = eqb (length M) (m .rows * m .columns)
 
-  -- 21: each entry list is (C·C − N)·test dim·trial dim long
+  -- 21: each entry list is as long as the entries of all touching records
   unfoldable pub listsSized : EntryLists → Bool
   listsSized e =
-      let n = (m .pairs - m .distant) * m .testDim * m .trialDim in
+      let n = entriesTo (m .pairs - m .distant) in
       every (eqb (length (e .rows)) n ∷ eqb (length (e .columns)) n ∷ eqb (length (e .values)) n ∷ [])
 
   -- 21 reads what the call is lent, 20 the position, 23 the kind of pair p and of the run; then 9 to 11
@@ -103,13 +116,13 @@ module _ (m : Machine) where
   callChecks p M e looks = check 20 (pairNext p) ∷ []
   callChecks p M e (addsDistant a) =
       check 21 (matrixSized M) ∷ check 20 (pairNext p) ∷ check 23 (not (touchingNo p) and not (m .entries))
-      ∷ distantChecks (m .integrand) (m .testDim) (m .trialDim) a
+      ∷ distantChecks (m .integrand) (testDimNo p) (trialDimNo p) a
   callChecks p M e (addsTouching a) =
       check 21 (matrixSized M) ∷ check 20 (pairNext p) ∷ check 23 (touchingNo p and not (m .entries))
-      ∷ touchingChecks (m .integrand) (m .testDim) (m .trialDim) a
+      ∷ touchingChecks (m .integrand) (testDimNo p) (trialDimNo p) a
   callChecks p M e (addsEntries a) =
       check 21 (listsSized e) ∷ check 20 (pairNext p) ∷ check 23 (touchingNo p and m .entries)
-      ∷ touchingChecks (m .integrand) (m .testDim) (m .trialDim) a
+      ∷ touchingChecks (m .integrand) (testDimNo p) (trialDimNo p) a
 
   -- ---- what an accepted call does
 
@@ -122,17 +135,17 @@ module _ (m : Machine) where
       addLocal (touchingEntry (m .integrand) a) (m .rows) (m .testDofs (recordNo k .test)) (m .trialDofs (recordNo k .trial)) M
   addPair k (addsEntries a) M = M
 
-  -- row, column and value of the local entries of pair k, from what is lent to the call, written from place (k − N)·test dim·trial dim on
+  -- row, column and value of the local entries of pair k, from what is lent to the call, written behind the entries of the touching records before it
   unfoldable pub writePair : ℕ → Call → EntryLists → EntryLists
   writePair k looks e = e
   writePair k (addsDistant a) e = e
   writePair k (addsTouching a) e = e
   writePair k (addsEntries a) e =
-      let at = (k - m .distant) * m .testDim * m .trialDim in
+      let at = entriesTo (k - m .distant) in
       record {
         rows = sets (e .rows) at (localRows (m .testDofs (recordNo k .test)) (m .trialDofs (recordNo k .trial)));
         columns = sets (e .columns) at (localColumns (m .testDofs (recordNo k .test)) (m .trialDofs (recordNo k .trial)));
-        values = sets (e .values) at (localValues (touchingEntry (m .integrand) a) (m .testDim) (m .trialDim));
+        values = sets (e .values) at (localValues (touchingEntry (m .integrand) a) (testDimNo k) (trialDimNo k));
       }
 
   -- a look leaves p as it is, any other moves it on by 1

@@ -87,8 +87,14 @@ module _ (m : Machine) where
   recordColumns e = localColumns (m .testDofs (e .test)) (m .trialDofs (e .trial))
 
   -- their values, from what is lent to an entries call
-  unfoldable pub callValues : Touching → List Float
-  callValues a = localValues (touchingEntry (m .integrand) a) (m .testDim) (m .trialDim)
+  unfoldable pub callValues : WorkRecord → Touching → List Float
+  callValues e a = localValues (touchingEntry (m .integrand) a) (m .testDim (e .test)) (m .trialDim (e .trial))
+
+  -- those of records, each from what its call is lent
+  unfoldable pub recordValues : List WorkRecord → List Touching → List Float
+  recordValues [] ws = []
+  recordValues (e ∷ es) [] = []
+  recordValues (e ∷ es) (a ∷ ws) = callValues e a ++ recordValues es ws
 
   -- the entries of records, one after the other, in the front of the three lists
   unfoldable pub entriesOf : List WorkRecord → List Touching → EntryLists → EntryLists
@@ -96,5 +102,5 @@ module _ (m : Machine) where
       record {
         rows = sets (e .rows) 0 (flatMap recordRows records);
         columns = sets (e .columns) 0 (flatMap recordColumns records);
-        values = sets (e .values) 0 (flatMap callValues calls);
+        values = sets (e .values) 0 (recordValues records calls);
       }

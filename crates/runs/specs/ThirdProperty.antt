@@ -90,5 +90,5 @@ module _ (x : Planning) (l : Lists) (n : PlanNumbers) (e : plan x l ≡ ready n)
           reading (machineOf x false) calls M lists .each k h
           ∙ ap (λ (p : ℕ). answerAt (machineOf x false) p M lists (getD calls k looks)) (zero-add _)
 
-  pub third-property : ThirdProperty x calls M lists (callAll (planIn (planLists x l)) calls (begin n) M lists)
+  pub third-property : ThirdProperty x calls M lists (callAll (planIn x (planLists x l)) calls (begin n) M lists)
   third-property = property _ (machine-beside x l n e false calls M lists)

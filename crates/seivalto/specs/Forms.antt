@@ -4,10 +4,12 @@ use Prim.Native.Nat.{ℕ}
 use mathlib.Core.Bool.{cond, not}
 use lib.Dec.{eqb}
 use Rattle.function.specs.declared.Element.{Element}
+use Rattle.function.specs.declared.Elements.{Elements}
 use Rattle.integrands.specs.declared.Term.{Term}
 use Rattle.integrands.specs.declared.Term.the-variants.{Bare, Scaled}
 use Rattle.integrands.specs.declared.Integrand.{Integrand}
 use Rattle.cell_pairs.specs.declared.WorkRecord.{WorkRecord}
+use Rattle.plans.specs.declared.KindPairs.{KindPairs}
 use Rattle.plans.specs.declared.PlanNumbers.{PlanNumbers}
 use Rattle.plans.specs.declared.Planned.{Planned}
 use Rattle.plans.specs.declared.Planned.the-variants.{Ready as ready, Refused as not-planned}
@@ -15,8 +17,10 @@ use Rattle.runs.specs.Runs.{Run, Reply, Answer, found, accepted, refused}
 use Rattle.sparse_lists.specs.declared.Gathered.{Gathered}
 use Rattle.sparse_lists.specs.declared.Gathered.the-variants.{Kept as kept, Refused as not-gathered}
 use Rattle.seivalto.specs.declared.CElement.{CElement}
+use Rattle.seivalto.specs.declared.CElements.{CElements}
 use Rattle.seivalto.specs.declared.CTerm.{CTerm}
 use Rattle.seivalto.specs.declared.CIntegrand.{CIntegrand}
+use Rattle.seivalto.specs.declared.CKindPairs.{CKindPairs}
 use Rattle.seivalto.specs.declared.CNumbers.{CNumbers}
 use Rattle.seivalto.specs.declared.CPlanned.{CPlanned}
 use Rattle.seivalto.specs.declared.CRun.{CRun}
@@ -30,6 +34,9 @@ use Rattle.seivalto.specs.declared.CGathered.{CGathered}
 abbrev pub elementOf : CElement → Element
 elementOf e = record { a = e .a; b = e .b; c = e .c }
 
+abbrev pub elementsOf : CElements → Elements
+elementsOf es = record { triangle = elementOf (es .triangle); quad = elementOf (es .quad) }
+
 -- bare where `scaled` is 0, whatever the factor; for any other `scaled` the term carries the factor
 abbrev pub termOf : CTerm → Term
 termOf t = cond (eqb (t .scaled) 0) (Bare (t .kind)) (Scaled (t .factor) (t .kind))
@@ -37,18 +44,30 @@ termOf t = cond (eqb (t .scaled) 0) (Bare (t .kind)) (Scaled (t .factor) (t .kin
 abbrev pub integrandOf : CIntegrand → Integrand
 integrandOf f = record { terms = f .terms; first = termOf (f .first); second = termOf (f .second) }
 
+abbrev pub pairsOf : CKindPairs → KindPairs
+pairsOf k =
+    record {
+      «triangle_triangle» = k .«triangle_triangle»;
+      «triangle_quad» = k .«triangle_quad»;
+      «quad_triangle» = k .«quad_triangle»;
+      «quad_quad» = k .«quad_quad»;
+    }
+
 abbrev pub numbersOf : CNumbers → PlanNumbers
 numbersOf n =
     record {
       cells = n .cells;
       vertices = n .vertices;
       edges = n .edges;
+      triangles = n .triangles;
+      quads = n .quads;
       touching = n .touching;
       distant = n .distant;
+      pairs = pairsOf (n .pairs);
       rows = n .rows;
       columns = n .columns;
-      test = elementOf (n .test);
-      trial = elementOf (n .trial);
+      test = elementsOf (n .test);
+      trial = elementsOf (n .trial);
       integrand = integrandOf (n .integrand);
     }
 
@@ -58,15 +77,27 @@ runOf c = record { numbers = numbersOf (c .numbers); entries = not (eqb (c .entr
 
 -- ---- the C form of each answer: `refusal` is 0 where the call is accepted, else the paper's number
 
--- planning's numbers, with the elements and the integrand as the host gave them
-abbrev pub cNumbers : CElement → CElement → CIntegrand → PlanNumbers → CNumbers
+abbrev pub cPairs : KindPairs → CKindPairs
+cPairs k =
+    record {
+      «triangle_triangle» = k .«triangle_triangle»;
+      «triangle_quad» = k .«triangle_quad»;
+      «quad_triangle» = k .«quad_triangle»;
+      «quad_quad» = k .«quad_quad»;
+    }
+
+-- planning's numbers, with the elements, of both kinds whether present or not, and the integrand as the host gave them
+abbrev pub cNumbers : CElements → CElements → CIntegrand → PlanNumbers → CNumbers
 cNumbers test trial f n =
     record {
       cells = n .cells;
       vertices = n .vertices;
       edges = n .edges;
+      triangles = n .triangles;
+      quads = n .quads;
       touching = n .touching;
       distant = n .distant;
+      pairs = cPairs (n .pairs);
       rows = n .rows;
       columns = n .columns;
       test = test;
@@ -74,15 +105,21 @@ cNumbers test trial f n =
       integrand = f;
     }
 
+abbrev pub noPairs : CKindPairs
+noPairs = record { «triangle_triangle» = 0; «triangle_quad» = 0; «quad_triangle» = 0; «quad_quad» = 0 }
+
 -- in their place where planning refuses: no cell
-abbrev pub noNumbers : CElement → CElement → CIntegrand → CNumbers
+abbrev pub noNumbers : CElements → CElements → CIntegrand → CNumbers
 noNumbers test trial f =
     record {
       cells = 0;
       vertices = 0;
       edges = 0;
+      triangles = 0;
+      quads = 0;
       touching = 0;
       distant = 0;
+      pairs = noPairs;
       rows = 0;
       columns = 0;
       test = test;
@@ -90,7 +127,7 @@ noNumbers test trial f =
       integrand = f;
     }
 
-abbrev pub cPlanned : CElement → CElement → CIntegrand → Planned → CPlanned
+abbrev pub cPlanned : CElements → CElements → CIntegrand → Planned → CPlanned
 cPlanned test trial f (ready n) = record { refusal = 0; numbers = cNumbers test trial f n }
 cPlanned test trial f (not-planned v) = record { refusal = v; numbers = noNumbers test trial f }
 

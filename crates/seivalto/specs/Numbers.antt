@@ -2,20 +2,18 @@
 use Prim.Native.Nat.{ℕ, zero, suc}
 use mathlib.Core.Path.{_≡_, refl}
 use mathlib.Core.Bool.{Bool, true, false}
-use mathlib.Core.List.{List, [], _∷_, tail}
+use mathlib.Core.List.{List, [], _∷_}
 use lib.Dec.{eqb}
 use lib.Ieee.{Float}
 use Rattle.lists.specs.Bool.{_and_, _or_, and-left, and-right}
-use Rattle.lists.specs.Refusals.{Check, check, refusal, unless}
-use Rattle.grid.specs.Mesh.{triangles, cellsRight}
-use Rattle.grid.specs.Facts.{triangles-right}
+use Rattle.lists.specs.Refusals.{Check, refusal, unless}
 use Rattle.plans.specs.declared.PlanNumbers.{PlanNumbers}
-use Rattle.plans.specs.Planning.{Planning, Lists, planChecks, planRefusal, planAnswer, plan, planNumbers}
+use Rattle.plans.specs.Planning.{Planning, Lists, planRefusal, planAnswer, plan, planNumbers}
 use Rattle.runs.specs.Runs.{Run, Plan, EntryLists, found, accepted, reply, recordOf, advance, lookRefusal, distantRefusal, touchingRefusal, entriesRefusal, look, addDistant, addTouching, addEntries}
 use Rattle.cell_pairs.specs.declared.WorkRecord.{WorkRecord}
 use Rattle.lent_numbers.specs.Lent.{Touching, Distant}
 use Rattle.sparse_lists.specs.Sparse.{SparseLists, valuesAt, keptOf, sparseRefusal, gathered, sparseRows}
-use Rattle.seivalto.specs.declared.CElement.{CElement}
+use Rattle.seivalto.specs.declared.CElements.{CElements}
 use Rattle.seivalto.specs.declared.CIntegrand.{CIntegrand}
 use Rattle.seivalto.specs.declared.CRun.{CRun}
 use Rattle.seivalto.specs.Forms.{runOf, cPlanned, cLooked, cAdded, cGathered}
@@ -26,7 +24,7 @@ among [] n = false
 among (m ∷ ms) n = eqb n m or among ms n
 
 abbrev pub planning : List ℕ
-planning = 0 ∷ 1 ∷ 2 ∷ 3 ∷ 4 ∷ 5 ∷ 6 ∷ 7 ∷ 8 ∷ []
+planning = 0 ∷ 1 ∷ 2 ∷ 3 ∷ 4 ∷ 5 ∷ 6 ∷ 7 ∷ 8 ∷ 26 ∷ []
 
 abbrev pub looking : List ℕ
 looking = 0 ∷ 20 ∷ 21 ∷ 22 ∷ []
@@ -54,7 +52,7 @@ refusal-among ms z (c ∷ cs) h = go (c .passes) (c .number) (refusal cs) (and-l
 
 -- ---- the refusal of an answer in C is the number
 
-planned-number : (test trial : CElement) (f : CIntegrand) (n : ℕ) (p : PlanNumbers) → cPlanned test trial f (planAnswer n p) .refusal ≡ n
+planned-number : (test trial : CElements) (f : CIntegrand) (n : ℕ) (p : PlanNumbers) → cPlanned test trial f (planAnswer n p) .refusal ≡ n
 planned-number test trial f zero p = refl
 planned-number test trial f (suc n) p = refl
 
@@ -72,13 +70,9 @@ gathered-number (suc v) n = refl
 
 -- ---- each function
 
--- of triangles: 26 turns none down
-pub plan-among : (test trial : CElement) (f : CIntegrand) (x : Planning) (l : Lists) → x .mesh .kinds ≡ triangles (x .mesh .cells)
-    → among planning (cPlanned test trial f (plan x l) .refusal) ≡ true
-unfolding plan planRefusal refusal unless among allAmong _and_ _or_
-plan-among test trial f x l e =
-    rw (planned-number test trial f (planRefusal x l) (planNumbers x), triangles-right (x .mesh) e)
-    (refusal-among planning refl (check 1 (cellsRight (x .mesh)) ∷ tail (tail (planChecks x l))) refl)
+pub plan-among : (test trial : CElements) (f : CIntegrand) (x : Planning) (l : Lists) → among planning (cPlanned test trial f (plan x l) .refusal) ≡ true
+unfolding plan planRefusal among allAmong _and_ _or_
+plan-among test trial f x l = rw (planned-number test trial f (planRefusal x l) (planNumbers x)) (refusal-among planning refl _ refl)
 
 pub look-among : (c : CRun) (l : Plan) → among looking (cLooked c (look (runOf c) l) .refusal) ≡ true
 unfolding look lookRefusal among allAmong _and_ _or_

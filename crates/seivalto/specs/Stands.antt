@@ -10,24 +10,36 @@ use Rattle.lists.specs.Bool.{_and_, every-fails}
 use Rattle.lists.specs.Refusals.{Check, refusal, refusal-fails}
 use Rattle.grid.specs.Mesh.{Mesh}
 use Rattle.cell_pairs.specs.declared.WorkRecord.{WorkRecord}
+use Rattle.plans.specs.declared.Planned.{Planned}
+use Rattle.plans.specs.declared.Planned.the-variants.{Ready as ready, Refused as not-planned}
 use Rattle.plans.specs.Planning.{planningOf, planNumbers}
-use Rattle.runs.specs.Runs.{Run, Plan, EntryLists, Reply, found, accepted, reply, begin, beginEntries, rangesRight, placesRight, planRight, stateChecks, lookRefusal, advance, distantRefusal, touchingRefusal, entriesRefusal}
+use Rattle.runs.specs.Runs.{Run, Plan, EntryLists, Reply, found, accepted, reply, begin, beginEntries, rangesRight, countsRight, kindsFit, planRight, stateChecks, lookRefusal, advance, distantRefusal, touchingRefusal, entriesRefusal}
 use Rattle.sparse_lists.specs.Sparse.{SparseLists, valuesAt, keptOf, sparseRefusal, gathered, sparseRows}
-use Rattle.seivalto.specs.declared.CElement.{CElement}
+use Rattle.seivalto.specs.declared.CElements.{CElements}
 use Rattle.seivalto.specs.declared.CIntegrand.{CIntegrand}
 use Rattle.seivalto.specs.declared.CNumbers.{CNumbers}
 use Rattle.seivalto.specs.declared.CRun.{CRun}
 use Rattle.seivalto.specs.declared.CLooked.{CLooked}
 use Rattle.seivalto.specs.declared.CAdded.{CAdded}
-use Rattle.seivalto.specs.Forms.{elementOf, integrandOf, numbersOf, runOf, cNumbers, cRun, cLooked, cAdded, cGathered}
+use Rattle.seivalto.specs.Forms.{elementsOf, integrandOf, numbersOf, runOf, cNumbers, cPlanned, cRun, cLooked, cAdded, cGathered}
 use Rattle.seivalto.specs.Calls.{lookedBy, addedBy}
 
 -- ---- planning and beginning
 
-pub plan-stands : (m : Mesh) (test trial : CElement) (B : ℕ) (f : CIntegrand)
-    → (let x = planningOf m (elementOf test) (elementOf trial) B (integrandOf f) in numbersOf (cNumbers test trial f (planNumbers x)) ≡ planNumbers x)
+pub plan-stands : (m : Mesh) (test trial : CElements) (B : ℕ) (f : CIntegrand)
+    → (let x = planningOf m (elementsOf test) (elementsOf trial) B (integrandOf f) in numbersOf (cNumbers test trial f (planNumbers x)) ≡ planNumbers x)
 unfolding planNumbers
 plan-stands m test trial B f = refl
+
+-- whatever planning answers, elements and integrand go back as the host gave them, those of a kind that is not present too
+pub record HandedBack (test trial : CElements) (f : CIntegrand) (n : CNumbers) : Type 0 where
+  pub test-kept : n .test ≡ test
+  pub trial-kept : n .trial ≡ trial
+  pub integrand-kept : n .integrand ≡ f
+
+pub plan-hands-back : (test trial : CElements) (f : CIntegrand) (p : Planned) → HandedBack test trial f (cPlanned test trial f p .numbers)
+plan-hands-back test trial f (ready n) = record { test-kept = refl; trial-kept = refl; integrand-kept = refl }
+plan-hands-back test trial f (not-planned v) = record { test-kept = refl; trial-kept = refl; integrand-kept = refl }
 
 pub begin-stands : (n : CNumbers) → runOf (cRun n (begin (numbersOf n))) ≡ begin (numbersOf n)
 unfolding begin
@@ -67,7 +79,7 @@ unfolding rangesRight _and_
 no-cell c e = every-fails _ 0 (rw e)
 
 out-of-range : (r : Run) (l : Plan) (sized : Bool) (rest : List Check) → rangesRight r ≡ false → refusal (stateChecks r l sized ++ rest) ≡ 21
-out-of-range r l sized rest e = refusal-fails 21 _ _ (every-fails (rangesRight r ∷ placesRight r ∷ planRight r l ∷ sized ∷ []) 0 e)
+out-of-range r l sized rest e = refusal-fails 21 _ _ (every-fails (rangesRight r ∷ countsRight r ∷ kindsFit r l ∷ planRight r l ∷ sized ∷ []) 0 e)
 
 pub record AllRefused (c : CRun) : Type 0 where
   pub look : (l : Plan) → lookRefusal (runOf c) l ≡ 21

@@ -16,11 +16,11 @@ use Rattle.runs.specs.Listed.{planIn}
 use Rattle.runs.specs.ThirdProperty.{ThirdProperty, third-property}
 use Rattle.runs.specs.EntriesProperty.{EntriesProperty, entries-property}
 use Rattle.sparse_lists.specs.SparseProperty.{SparseProperty, sparse-of}
-use Rattle.seivalto.specs.declared.CElement.{CElement}
+use Rattle.seivalto.specs.declared.CElements.{CElements}
 use Rattle.seivalto.specs.declared.CIntegrand.{CIntegrand}
 use Rattle.seivalto.specs.declared.CPlanned.{CPlanned}
 use Rattle.seivalto.specs.declared.CRun.{CRun}
-use Rattle.seivalto.specs.Forms.{elementOf, integrandOf, numbersOf, runOf, cPlanned, cRun}
+use Rattle.seivalto.specs.Forms.{elementsOf, integrandOf, numbersOf, runOf, cPlanned, cRun}
 use Rattle.seivalto.specs.Calls.{CProgress, cCall, cCallAll}
 use Rattle.seivalto.specs.Stands.{plan-stands, begin-stands, begin-entries-stands, look-stands, add-stands}
 
@@ -59,16 +59,16 @@ calls-stand l calls c M e =
 
 -- ---- from planning's answer in C
 
-module _ (m : Mesh) (test trial : CElement) (batch : ℕ) (f : CIntegrand) (l : Lists) where
+module _ (m : Mesh) (test trial : CElements) (batch : ℕ) (f : CIntegrand) (l : Lists) where
   -- planning's arguments, its answer in C, and the plan that it leaves
   abbrev x : Planning
-  x = planningOf m (elementOf test) (elementOf trial) batch (integrandOf f)
+  x = planningOf m (elementsOf test) (elementsOf trial) batch (integrandOf f)
 
   abbrev planned : CPlanned
   planned = cPlanned test trial f (plan x l)
 
   abbrev left : Plan
-  left = planIn (planLists x l)
+  left = planIn x (planLists x l)
 
   -- where its refusal is 0, planning answers with the numbers that it stands for
   accepted : planned .refusal ≡ 0 → plan x l ≡ ready (numbersOf (planned .numbers))

@@ -12,6 +12,7 @@ ghost use Rattle.seivalto.specs.Forms.{runOf, cAdded};
 #[no_mangle]
 pub extern "C" fn seivalto_add_distant(
     run: CRun,
+    kinds: &[u8],
     test_dofs: &[u32],
     trial_dofs: &[u32],
     work: &[u32],
@@ -26,13 +27,14 @@ pub extern "C" fn seivalto_add_distant(
     trial_geometry: &[f64],
     matrix: &mut [f64],
 ) -> CAdded
-    ensures { λ r. ⌜ r ≡ cAdded run (addDistant (runOf run) (planOf (now («test_dofs» .entry)) (now («trial_dofs» .entry)) (now (work .entry))) (now (matrix .entry))
+    ensures { λ r. ⌜ r ≡ cAdded run (addDistant (runOf run) (planOf (now (kinds .entry)) (now («test_dofs» .entry)) (now («trial_dofs» .entry)) (now (work .entry))) (now (matrix .entry))
         (distant «test_points» «trial_points» (now («test_weights» .entry)) (now («trial_weights» .entry)) (now («test_table» .entry)) (now («trial_table» .entry)) (now (kernel .entry)) (now («test_geometry» .entry)) (now («trial_geometry» .entry)))) ⌝ }
-    ensures { λ _. ⌜ now (matrix .exit) ≡ distantMatrix (runOf run) (planOf (now («test_dofs» .entry)) (now («trial_dofs» .entry)) (now (work .entry))) (now (matrix .entry))
+    ensures { λ _. ⌜ now (matrix .exit) ≡ distantMatrix (runOf run) (planOf (now (kinds .entry)) (now («test_dofs» .entry)) (now («trial_dofs» .entry)) (now (work .entry))) (now (matrix .entry))
         (distant «test_points» «trial_points» (now («test_weights» .entry)) (now («trial_weights» .entry)) (now («test_table» .entry)) (now («trial_table» .entry)) (now (kernel .entry)) (now («test_geometry» .entry)) (now («trial_geometry» .entry))) ⌝ }
 {
     let inner = run_of(run);
     let answer = inner.add_distant(
+        kinds,
         test_dofs,
         trial_dofs,
         work,
@@ -54,6 +56,7 @@ pub extern "C" fn seivalto_add_distant(
 #[no_mangle]
 pub extern "C" fn seivalto_add_touching(
     run: CRun,
+    kinds: &[u8],
     test_dofs: &[u32],
     trial_dofs: &[u32],
     work: &[u32],
@@ -66,13 +69,14 @@ pub extern "C" fn seivalto_add_touching(
     trial_geometry: &[f64],
     matrix: &mut [f64],
 ) -> CAdded
-    ensures { λ r. ⌜ r ≡ cAdded run (addTouching (runOf run) (planOf (now («test_dofs» .entry)) (now («trial_dofs» .entry)) (now (work .entry))) (now (matrix .entry))
+    ensures { λ r. ⌜ r ≡ cAdded run (addTouching (runOf run) (planOf (now (kinds .entry)) (now («test_dofs» .entry)) (now («trial_dofs» .entry)) (now (work .entry))) (now (matrix .entry))
         (touching points (now (weights .entry)) (now («test_table» .entry)) (now («trial_table» .entry)) (now (kernel .entry)) (now («test_geometry» .entry)) (now («trial_geometry» .entry)))) ⌝ }
-    ensures { λ _. ⌜ now (matrix .exit) ≡ touchingMatrix (runOf run) (planOf (now («test_dofs» .entry)) (now («trial_dofs» .entry)) (now (work .entry))) (now (matrix .entry))
+    ensures { λ _. ⌜ now (matrix .exit) ≡ touchingMatrix (runOf run) (planOf (now (kinds .entry)) (now («test_dofs» .entry)) (now («trial_dofs» .entry)) (now (work .entry))) (now (matrix .entry))
         (touching points (now (weights .entry)) (now («test_table» .entry)) (now («trial_table» .entry)) (now (kernel .entry)) (now («test_geometry» .entry)) (now («trial_geometry» .entry))) ⌝ }
 {
     let inner = run_of(run);
     let answer = inner.add_touching(
+        kinds,
         test_dofs,
         trial_dofs,
         work,
@@ -92,6 +96,7 @@ pub extern "C" fn seivalto_add_touching(
 #[no_mangle]
 pub extern "C" fn seivalto_add_entries(
     run: CRun,
+    kinds: &[u8],
     test_dofs: &[u32],
     trial_dofs: &[u32],
     work: &[u32],
@@ -106,16 +111,17 @@ pub extern "C" fn seivalto_add_entries(
     columns: &mut [u32],
     values: &mut [f64],
 ) -> CAdded
-    ensures { λ r. ⌜ r ≡ cAdded run (addEntries (runOf run) (planOf (now («test_dofs» .entry)) (now («trial_dofs» .entry)) (now (work .entry)))
+    ensures { λ r. ⌜ r ≡ cAdded run (addEntries (runOf run) (planOf (now (kinds .entry)) (now («test_dofs» .entry)) (now («trial_dofs» .entry)) (now (work .entry)))
         (entryLists (now (rows .entry)) (now (columns .entry)) (now (values .entry)))
         (touching points (now (weights .entry)) (now («test_table» .entry)) (now («trial_table» .entry)) (now (kernel .entry)) (now («test_geometry» .entry)) (now («trial_geometry» .entry)))) ⌝ }
     ensures { λ _. ⌜ entryLists (now (rows .exit)) (now (columns .exit)) (now (values .exit))
-        ≡ entriesWritten (runOf run) (planOf (now («test_dofs» .entry)) (now («trial_dofs» .entry)) (now (work .entry)))
+        ≡ entriesWritten (runOf run) (planOf (now (kinds .entry)) (now («test_dofs» .entry)) (now («trial_dofs» .entry)) (now (work .entry)))
         (entryLists (now (rows .entry)) (now (columns .entry)) (now (values .entry)))
         (touching points (now (weights .entry)) (now («test_table» .entry)) (now («trial_table» .entry)) (now (kernel .entry)) (now («test_geometry» .entry)) (now («trial_geometry» .entry))) ⌝ }
 {
     let inner = run_of(run);
     let answer = inner.add_entries(
+        kinds,
         test_dofs,
         trial_dofs,
         work,

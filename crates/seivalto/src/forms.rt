@@ -1,8 +1,9 @@
 // What the C forms stand for, and the C forms of what the calls answer.
 use crate::CAdded;
-use crate::CElement;
+use crate::CElements;
 use crate::CGathered;
 use crate::CIntegrand;
+use crate::CKindPairs;
 use crate::CLooked;
 use crate::CNumbers;
 use crate::CPlanned;
@@ -14,24 +15,35 @@ use boundary_assemblers::Looked;
 use boundary_assemblers::Run;
 use cell_pairs::WorkRecord;
 use function::Element;
+use function::Elements;
 use integrands::Integrand;
 use integrands::Term;
+use plans::KindPairs;
 use plans::PlanNumbers;
 use plans::Planned;
 use sparse_lists::Gathered;
 ghost use mathlib.Core.Path.{_≡_};
 ghost use Rattle.boundary_assemblers.specs.Forms as Inner;
-ghost use Rattle.seivalto.specs.Forms.{elementOf, termOf, integrandOf, numbersOf, runOf, cNumbers, noNumbers, cPlanned, cRecord, noRecord, cLooked, cRun, moved, cAdded, cGathered};
+ghost use Rattle.seivalto.specs.Forms.{elementsOf, termOf, integrandOf, numbersOf, runOf, cNumbers, noNumbers, cPlanned, cRecord, noRecord, cLooked, cRun, moved, cAdded, cGathered};
 
 // ---- what a C form stands for
 
-pub(crate) fn element_of(e: CElement) -> Element
-    ensures { λ r. ⌜ r ≡ elementOf e ⌝ }
+pub(crate) fn elements_of(es: CElements) -> Elements
+    ensures { λ r. ⌜ r ≡ elementsOf es ⌝ }
 {
-    Element {
-        a: e.a,
-        b: e.b,
-        c: e.c,
+    let triangle = es.triangle;
+    let quad = es.quad;
+    Elements {
+        triangle: Element {
+            a: triangle.a,
+            b: triangle.b,
+            c: triangle.c,
+        },
+        quad: Element {
+            a: quad.a,
+            b: quad.b,
+            c: quad.c,
+        },
     }
 }
 
@@ -60,15 +72,24 @@ pub(crate) fn integrand_of(f: CIntegrand) -> Integrand
 pub(crate) fn numbers_of(n: CNumbers) -> PlanNumbers
     ensures { λ r. ⌜ r ≡ numbersOf n ⌝ }
 {
-    let test = element_of(n.test);
-    let trial = element_of(n.trial);
+    let k = n.pairs;
+    let test = elements_of(n.test);
+    let trial = elements_of(n.trial);
     let integrand = integrand_of(n.integrand);
     PlanNumbers {
         cells: n.cells,
         vertices: n.vertices,
         edges: n.edges,
+        triangles: n.triangles,
+        quads: n.quads,
         touching: n.touching,
         distant: n.distant,
+        pairs: KindPairs {
+            triangle_triangle: k.triangle_triangle,
+            triangle_quad: k.triangle_quad,
+            quad_triangle: k.quad_triangle,
+            quad_quad: k.quad_quad,
+        },
         rows: n.rows,
         columns: n.columns,
         test: test,
@@ -91,16 +112,25 @@ pub(crate) fn run_of(c: CRun) -> Run
 
 // ---- the C forms of what the calls answer
 
-// Planning's numbers, with the elements and the integrand that the host gave.
-fn c_numbers(test: CElement, trial: CElement, f: CIntegrand, n: PlanNumbers) -> CNumbers
+// Planning's numbers, with the elements, of both kinds whether present or not, and the integrand that the host gave.
+fn c_numbers(test: CElements, trial: CElements, f: CIntegrand, n: PlanNumbers) -> CNumbers
     ensures { λ r. ⌜ r ≡ cNumbers test trial f n ⌝ }
 {
+    let pairs = n.pairs;
     CNumbers {
         cells: n.cells,
         vertices: n.vertices,
         edges: n.edges,
+        triangles: n.triangles,
+        quads: n.quads,
         touching: n.touching,
         distant: n.distant,
+        pairs: CKindPairs {
+            triangle_triangle: pairs.triangle_triangle,
+            triangle_quad: pairs.triangle_quad,
+            quad_triangle: pairs.quad_triangle,
+            quad_quad: pairs.quad_quad,
+        },
         rows: n.rows,
         columns: n.columns,
         test: test,
@@ -110,15 +140,23 @@ fn c_numbers(test: CElement, trial: CElement, f: CIntegrand, n: PlanNumbers) -> 
 }
 
 // What stands in their place where planning refuses.
-fn no_numbers(test: CElement, trial: CElement, f: CIntegrand) -> CNumbers
+fn no_numbers(test: CElements, trial: CElements, f: CIntegrand) -> CNumbers
     ensures { λ r. ⌜ r ≡ noNumbers test trial f ⌝ }
 {
     CNumbers {
         cells: 0,
         vertices: 0,
         edges: 0,
+        triangles: 0,
+        quads: 0,
         touching: 0,
         distant: 0,
+        pairs: CKindPairs {
+            triangle_triangle: 0,
+            triangle_quad: 0,
+            quad_triangle: 0,
+            quad_quad: 0,
+        },
         rows: 0,
         columns: 0,
         test: test,
@@ -127,7 +165,12 @@ fn no_numbers(test: CElement, trial: CElement, f: CIntegrand) -> CNumbers
     }
 }
 
-pub(crate) fn c_planned(test: CElement, trial: CElement, f: CIntegrand, answer: Planned) -> CPlanned
+pub(crate) fn c_planned(
+    test: CElements,
+    trial: CElements,
+    f: CIntegrand,
+    answer: Planned,
+) -> CPlanned
     ensures { λ r. ⌜ r ≡ cPlanned test trial f answer ⌝ }
 {
     match answer {

@@ -7,7 +7,7 @@ use boundary_assemblers::Run;
 use forms::c_looked;
 use forms::c_planned;
 use forms::c_run;
-use forms::element_of;
+use forms::elements_of;
 use forms::integrand_of;
 use forms::numbers_of;
 use forms::run_of;
@@ -15,10 +15,10 @@ use grid::Sizes;
 use planning::Assembly;
 use planning::plan;
 ghost use mathlib.Core.Path.{_≡_};
-ghost use Rattle.grid.specs.Mesh.{sizesOf, meshOf};
+ghost use Rattle.grid.specs.Mesh.{sizesOf, meshWith};
 ghost use Rattle.plans.specs.Planning.{planningOf, listsOf, plan, planLists};
 ghost use Rattle.runs.specs.Runs.{planOf, begin, beginEntries, look};
-ghost use Rattle.seivalto.specs.Forms.{elementOf, integrandOf, numbersOf, runOf, cPlanned, cRun, cLooked};
+ghost use Rattle.seivalto.specs.Forms.{elementsOf, integrandOf, numbersOf, runOf, cPlanned, cRun, cLooked};
 
 // DOFs per vertex (a), per edge (b) and per cell (c).
 #[repr(C)]
@@ -26,6 +26,13 @@ pub struct CElement {
     pub a: u32,
     pub b: u32,
     pub c: u32,
+}
+
+// The elements of one side, one for each kind of cell. Where a kind is not present its element is not read.
+#[repr(C)]
+pub struct CElements {
+    pub triangle: CElement,
+    pub quad: CElement,
 }
 
 // A term: `scaled` is 0 for a bare one, whose factor is not read, and any other number for one that carries the factor.
@@ -44,18 +51,30 @@ pub struct CIntegrand {
     pub second: CTerm,
 }
 
+// The touching pairs per two kinds: the kind of the test cell, then that of the trial cell.
+#[repr(C)]
+pub struct CKindPairs {
+    pub triangle_triangle: u32,
+    pub triangle_quad: u32,
+    pub quad_triangle: u32,
+    pub quad_quad: u32,
+}
+
 // The numbers that planning hands back.
 #[repr(C)]
 pub struct CNumbers {
     pub cells: u32,
     pub vertices: u32,
     pub edges: u32,
+    pub triangles: u32,
+    pub quads: u32,
     pub touching: u32,
     pub distant: u32,
+    pub pairs: CKindPairs,
     pub rows: u32,
     pub columns: u32,
-    pub test: CElement,
-    pub trial: CElement,
+    pub test: CElements,
+    pub trial: CElements,
     pub integrand: CIntegrand,
 }
 
@@ -110,10 +129,11 @@ pub extern "C" fn seivalto_plan(
     cells: u32,
     vertices: u32,
     edges: u32,
+    kinds: &[u8],
     cell_vertices: &[u32],
     cell_edges: &[u32],
-    test: CElement,
-    trial: CElement,
+    test: CElements,
+    trial: CElements,
     batch: u32,
     integrand: CIntegrand,
     test_dofs: &mut [u32],
@@ -125,10 +145,10 @@ pub extern "C" fn seivalto_plan(
     work: &mut [u32],
 ) -> CPlanned
     ensures { λ r. ⌜ r ≡ cPlanned test trial integrand
-        (plan (planningOf (meshOf (sizesOf cells vertices edges) (now («cell_vertices» .entry)) (now («cell_edges» .entry))) (elementOf test) (elementOf trial) batch (integrandOf integrand))
+        (plan (planningOf (meshWith (sizesOf cells vertices edges) (now (kinds .entry)) (now («cell_vertices» .entry)) (now («cell_edges» .entry))) (elementsOf test) (elementsOf trial) batch (integrandOf integrand))
         (listsOf (now («test_dofs» .entry)) (now («trial_dofs» .entry)) (now («test_colours» .entry)) (now («trial_colours» .entry)) (now («test_owners» .entry)) (now («trial_owners» .entry)) (now (work .entry)))) ⌝ }
     ensures { λ _. ⌜ listsOf (now («test_dofs» .exit)) (now («trial_dofs» .exit)) (now («test_colours» .exit)) (now («trial_colours» .exit)) (now («test_owners» .exit)) (now («trial_owners» .exit)) (now (work .exit))
-        ≡ planLists (planningOf (meshOf (sizesOf cells vertices edges) (now («cell_vertices» .entry)) (now («cell_edges» .entry))) (elementOf test) (elementOf trial) batch (integrandOf integrand))
+        ≡ planLists (planningOf (meshWith (sizesOf cells vertices edges) (now (kinds .entry)) (now («cell_vertices» .entry)) (now («cell_edges» .entry))) (elementsOf test) (elementsOf trial) batch (integrandOf integrand))
         (listsOf (now («test_dofs» .entry)) (now («trial_dofs» .entry)) (now («test_colours» .entry)) (now («trial_colours» .entry)) (now («test_owners» .entry)) (now («trial_owners» .entry)) (now (work .entry))) ⌝ }
 {
     let sizes = Sizes {
@@ -137,13 +157,14 @@ pub extern "C" fn seivalto_plan(
         edges: edges,
     };
     let assembly = Assembly {
-        test: element_of(test),
-        trial: element_of(trial),
+        test: elements_of(test),
+        trial: elements_of(trial),
         batch: batch,
         integrand: integrand_of(integrand),
     };
     let answer = plan(
         sizes,
+        kinds,
         cell_vertices,
         cell_edges,
         assembly,
@@ -180,12 +201,13 @@ pub extern "C" fn seivalto_begin_entries(numbers: CNumbers) -> CRun
 #[no_mangle]
 pub extern "C" fn seivalto_look(
     run: CRun,
+    kinds: &[u8],
     test_dofs: &[u32],
     trial_dofs: &[u32],
     work: &[u32],
 ) -> CLooked
-    ensures { λ r. ⌜ r ≡ cLooked run (look (runOf run) (planOf (now («test_dofs» .entry)) (now («trial_dofs» .entry)) (now (work .entry)))) ⌝ }
+    ensures { λ r. ⌜ r ≡ cLooked run (look (runOf run) (planOf (now (kinds .entry)) (now («test_dofs» .entry)) (now («trial_dofs» .entry)) (now (work .entry)))) ⌝ }
 {
     let inner = run_of(run);
-    c_looked(run, inner.look(test_dofs, trial_dofs, work))
+    c_looked(run, inner.look(kinds, test_dofs, trial_dofs, work))
 }

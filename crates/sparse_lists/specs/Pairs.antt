@@ -18,8 +18,8 @@ module _ (m : Machine) where
       flatMap
       (λ j. flatMap
       (λ i. when (eqb (getD (m .testDofs (e .test)) i 0) r and eqb (getD (m .trialDofs (e .trial)) j 0) c) (touchingEntry (m .integrand) a i j ∷ []))
-      (range (m .testDim)))
-      (range (m .trialDim))
+      (range (m .testDim (e .test))))
+      (range (m .trialDim (e .trial)))
 
   -- those of pairs, one after the other, each with what is lent to its call
   unfoldable pub pairsAt : List WorkRecord → List Touching → ℕ → ℕ → List Float

@@ -21,11 +21,11 @@ use Rattle.cell_pairs.specs.WorkList.{touchingPart}
 use Rattle.scatter.specs.Adding.{localRows, localColumns}
 use Rattle.scatter.specs.AddingFacts.{length-localRows, length-localColumns, length-localValues}
 use Rattle.plans.specs.Planning.{Planning, Lists}
-use Rattle.plans.specs.Accepted.{Accepted, dofs-long}
+use Rattle.plans.specs.Accepted.{Accepted, test-fits, trial-fits}
 use Rattle.runs.specs.Runs.{EntryLists, entryLists}
-use Rattle.runs.specs.CellDofs.{cell-fits, length-cell-is, cell-below}
+use Rattle.runs.specs.CellDofs.{cell-long, cell-below}
 use Rattle.runs.specs.Machine.{Machine, machineAlong, machineOf}
-use Rattle.runs.specs.Reading.{recordRows, recordColumns, callValues}
+use Rattle.runs.specs.Reading.{recordRows, recordColumns, callValues, recordValues}
 use Rattle.sparse_lists.specs.declared.Gathered.the-variants.{Kept as kept}
 use Rattle.sparse_lists.specs.Sparse.{valuesAt, keptOf, SparseLists, inFront, entriesFit, listsHold, sparseRefusal, sparseRows, sparseWritten}
 use Rattle.sparse_lists.specs.Laws.{same-kept, same-lists}
@@ -48,17 +48,17 @@ all-below bound xs h = all-in-places (λ k. k < bound) xs 0 (below-at xs bound h
 
 -- ---- records and the calls beside them
 
--- its cells have as many DOFs as their elements
+-- its cells have as many DOFs as their elements say
 record Dims (m : Machine) (e : WorkRecord) : Type 0 where
-  test : length (m .testDofs (e .test)) ≡ m .testDim
-  trial : length (m .trialDofs (e .trial)) ≡ m .trialDim
+  test : length (m .testDofs (e .test)) ≡ m .testDim (e .test)
+  trial : length (m .trialDofs (e .trial)) ≡ m .trialDim (e .trial)
 
 module _ (m : Machine) where
   columns-long : (e : WorkRecord) → length (recordColumns m e) ≡ length (recordRows m e)
   unfolding recordRows recordColumns
   columns-long e = length-localColumns _ _ ∙ sym (length-localRows _ _)
 
-  values-long : (e : WorkRecord) (a : Touching) → Dims m e → length (callValues m a) ≡ length (recordRows m e)
+  values-long : (e : WorkRecord) (a : Touching) → Dims m e → length (callValues m e a) ≡ length (recordRows m e)
   unfolding recordRows callValues
   values-long e a d = length-localValues _ _ _ ∙ ap₂ (λ (i j : ℕ). i * j) (sym (d .test)) (sym (d .trial)) ∙ sym (length-localRows _ _)
 
@@ -68,27 +68,27 @@ module _ (m : Machine) where
   all-columns [] = refl
   all-columns (e ∷ es) = length-append (recordColumns m e) _ ∙ ap₂ (λ (i j : ℕ). i + j) (columns-long e) (all-columns es) ∙ sym (length-append (recordRows m e) _)
 
-  all-values : (es : List WorkRecord) (ws : List Touching) → AllIn (Dims m) es → length ws ≡ length es → length (flatMap (callValues m) ws) ≡ length (flatMap (recordRows m) es)
-  unfolding flatMap AllIn
+  all-values : (es : List WorkRecord) (ws : List Touching) → AllIn (Dims m) es → length ws ≡ length es → length (recordValues m es ws) ≡ length (flatMap (recordRows m) es)
+  unfolding flatMap AllIn recordValues
   all-values [] [] d h = refl
   all-values [] (a ∷ ws) d h = absurd (omega arith)
   all-values (e ∷ es) [] d h = absurd (omega arith)
   all-values (e ∷ es) (a ∷ ws) d h =
-      length-append (callValues m a) _ ∙ ap₂ (λ (i j : ℕ). i + j) (values-long e a (d .0)) (all-values es ws (d .1) (omega arith)) ∙ sym (length-append (recordRows m e) _)
+      length-append (callValues m e a) _ ∙ ap₂ (λ (i j : ℕ). i + j) (values-long e a (d .0)) (all-values es ws (d .1) (omega arith)) ∙ sym (length-append (recordRows m e) _)
 
   module _ (r c : ℕ) where
-    values-pair : (e : WorkRecord) (a : Touching) → Dims m e → valuesAt (entryLists (recordRows m e) (recordColumns m e) (callValues m a)) r c ≡ pairAt m e a r c
+    values-pair : (e : WorkRecord) (a : Touching) → Dims m e → valuesAt (entryLists (recordRows m e) (recordColumns m e) (callValues m e a)) r c ≡ pairAt m e a r c
     unfolding recordRows recordColumns callValues pairAt
     values-pair e a d = rw (← d .test, ← d .trial) (values-local r c (m .testDofs (e .test)) (m .trialDofs (e .trial)) (touchingEntry (m .integrand) a))
 
     values-pairs : (es : List WorkRecord) (ws : List Touching) → AllIn (Dims m) es → length ws ≡ length es
-        → valuesAt (entryLists (flatMap (recordRows m) es) (flatMap (recordColumns m) es) (flatMap (callValues m) ws)) r c ≡ pairsAt m es ws r c
-    unfolding AllIn flatMap pairsAt
+        → valuesAt (entryLists (flatMap (recordRows m) es) (flatMap (recordColumns m) es) (recordValues m es ws)) r c ≡ pairsAt m es ws r c
+    unfolding AllIn flatMap pairsAt recordValues
     values-pairs [] [] d h = values-nil r c [] []
     values-pairs [] (a ∷ ws) d h = absurd (omega arith)
     values-pairs (e ∷ es) [] d h = absurd (omega arith)
     values-pairs (e ∷ es) (a ∷ ws) d h =
-        values-append r c (recordRows m e) _ (recordColumns m e) _ (callValues m a) _ (columns-long e) (values-long e a (d .0))
+        values-append r c (recordRows m e) _ (recordColumns m e) _ (callValues m e a) _ (columns-long e) (values-long e a (d .0))
         ∙ ap₂ (λ (xs ys : List Float). xs ++ ys) (values-pair e a (d .0)) (values-pairs es ws (d .1) (omega arith))
 
 -- ---- the touching records of a mesh
@@ -104,8 +104,8 @@ module _ {x : Planning} {l : Lists} (ok : Accepted x l) where
   unfolding machineAlong
   dims e near =
       record {
-        test = length-cell-is _ _ _ (cell-fits (x .mesh .cells) _ _ _ (dofs-long ok (x .test)) (near .testCell));
-        trial = length-cell-is _ _ _ (cell-fits (x .mesh .cells) _ _ _ (dofs-long ok (x .trial)) (near .trialCell));
+        test = cell-long ok (x .test) (test-fits ok) (e .test) (near .testCell);
+        trial = cell-long ok (x .trial) (trial-fits ok) (e .trial) (near .trialCell);
       }
 
   all-dims : AllIn (Dims m) T
@@ -115,20 +115,20 @@ module _ {x : Planning} {l : Lists} (ok : Accepted x l) where
   unfolding recordRows localRows machineAlong
   rows-below =
       all-in-flatMap (Near (x .mesh)) (λ k. k < m .rows) (recordRows m)
-      (λ e near. all-in-flatMap (λ _. Unit {0}) (λ k. k < m .rows) _ (λ _ _. all-below _ _ (cell-below ok (x .test) (e .test) (near .testCell))) _ (all-in-places (λ _. Unit {0}) _ 0 (λ _ _. tt)))
+      (λ e _. all-in-flatMap (λ _. Unit {0}) (λ k. k < m .rows) _ (λ _ _. all-below _ _ (cell-below ok (x .test) (test-fits ok) (e .test))) _ (all-in-places (λ _. Unit {0}) _ 0 (λ _ _. tt)))
       T (touching-each (x .mesh))
 
   columns-below : AllIn (λ k. k < m .columns) (flatMap (recordColumns m) T)
   unfolding recordColumns localColumns machineAlong
   columns-below =
       all-in-flatMap (Near (x .mesh)) (λ k. k < m .columns) (recordColumns m)
-      (λ e near. all-in-flatMap (λ k. k < m .columns) (λ k. k < m .columns) _ (λ column h. all-in-same (λ k. k < m .columns) column h (m .testDofs (e .test))) _
-      (all-below _ _ (cell-below ok (x .trial) (e .trial) (near .trialCell))))
+      (λ e _. all-in-flatMap (λ k. k < m .columns) (λ k. k < m .columns) _ (λ column h. all-in-same (λ k. k < m .columns) column h (m .testDofs (e .test))) _
+      (all-below _ _ (cell-below ok (x .trial) (trial-fits ok) (e .trial))))
       T (touching-each (x .mesh))
 
   module _ (ws : List Touching) (each : length ws ≡ length T) where
     abbrev lists : EntryLists
-    lists = entryLists (flatMap (recordRows m) T) (flatMap (recordColumns m) T) (flatMap (callValues m) ws)
+    lists = entryLists (flatMap (recordRows m) T) (flatMap (recordColumns m) T) (recordValues m T ws)
 
     pub pairs-fit : entriesFit lists (m .rows) (m .columns) ≡ true
     unfolding entriesFit

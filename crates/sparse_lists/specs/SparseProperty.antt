@@ -60,6 +60,6 @@ module _ (x : Planning) (l : Lists) (n : PlanNumbers) (e : plan x l ≡ ready n)
         gathers = gathers-known (q .lists) (touchingAt x calls q) (n .rows) (n .columns) fit held;
       }
 
-  pub sparse-property : (let q = callAll (planIn (planLists x l)) calls (beginEntries n) M lists in
+  pub sparse-property : (let q = callAll (planIn x (planLists x l)) calls (beginEntries n) M lists in
       q .run .position ≡ x .mesh .cells * x .mesh .cells → SparseProperty x n calls q)
   sparse-property = sparse-of (entries-property x l n e calls M lists)

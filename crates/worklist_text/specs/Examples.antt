@@ -1,11 +1,13 @@
 -- M4, M5, M7 and M8 of the paper, as `worklist` prints them. Assumes nothing.
 use Prim.Native.Nat.{ℕ, _/_, _%_}
-use mathlib.Core.Path.{refl}
+use mathlib.Core.Path.{_≡_, refl, ap, _∙_}
 use mathlib.Core.List.{List, [], _∷_, _++_, flatMap}
 use lib.ListN.{length, take, replicate}
 use Rattle.lists.specs.Examples.{Example, example, Holds}
 use Rattle.grid.specs.Mesh.{Mesh, triangles}
 use Rattle.grid.specs.Examples.{M, M7-turned, M7-twice}
+use Rattle.cell_pairs.specs.Examples.{M4-records-holds, M5-records-holds, M7-records-holds}
+use Rattle.plans.specs.Planning.{workRecords}
 use Rattle.plans.specs.Examples.{opened-plans}
 use Rattle.job.specs.Examples.{opened-job}
 use Rattle.worklist_text.specs.Text.{digits, lineOf, refusedLine, jobPlanning, worklistRefusal, worklist}
@@ -74,29 +76,46 @@ refused·12 = 114 ∷ 101 ∷ 102 ∷ 117 ∷ 115 ∷ 101 ∷ 100 ∷ 32 ∷ 49 
 abbrev refused·13 : List ℕ
 refused·13 = 114 ∷ 101 ∷ 102 ∷ 117 ∷ 115 ∷ 101 ∷ 100 ∷ 32 ∷ 49 ∷ 51 ∷ 10 ∷ []
 
+-- where nothing turns the job down, the lines of its records
+lines : (s : List ℕ) → worklistRefusal s ≡ 0 → worklist s ≡ flatMap lineOf (workRecords (jobPlanning s))
+unfolding worklist
+lines s e = rw e
+
 -- M4: both elements a = 1, batch 2
 abbrev pub M4 : Example
 M4 = example (worklist (jobOf M 2)) (255·2·0 ++ 255·0·2 ++ 255·2·1 ++ 255·1·2 ++ 11·0·1 ++ 15·1·0 ++ 27·0·0 ++ 27·1·1 ++ 27·2·2)
 
+M4-passes : worklistRefusal (jobOf M 2) ≡ 0
+unfolding opened-worklist-text
+M4-passes = refl
+
 pub M4-holds : Holds M4
 unfolding opened-worklist-text
-M4-holds = refl
+M4-holds = lines (jobOf M 2) M4-passes ∙ ap (flatMap lineOf) M4-records-holds
 
 -- M5: batch 1: the first two lines trade places
 abbrev pub M5 : Example
 M5 = example (worklist (jobOf M 1)) (255·0·2 ++ 255·2·0 ++ 255·2·1 ++ 255·1·2 ++ 11·0·1 ++ 15·1·0 ++ 27·0·0 ++ 27·1·1 ++ 27·2·2)
 
+M5-passes : worklistRefusal (jobOf M 1) ≡ 0
+unfolding opened-worklist-text
+M5-passes = refl
+
 pub M5-holds : Holds M5
 unfolding opened-worklist-text
-M5-holds = refl
+M5-holds = lines (jobOf M 1) M5-passes ∙ ap (flatMap lineOf) M5-records-holds
 
 -- M7: cells (0,1,2) twice: four records of 27
 abbrev pub M7-twice-text : Example
 M7-twice-text = example (worklist (jobOf M7-twice 1)) (27·0·0 ++ 27·0·1 ++ 27·1·0 ++ 27·1·1)
 
+M7-twice-text-passes : worklistRefusal (jobOf M7-twice 1) ≡ 0
+unfolding opened-worklist-text
+M7-twice-text-passes = refl
+
 pub M7-twice-text-holds : Holds M7-twice-text
 unfolding opened-worklist-text
-M7-twice-text-holds = refl
+M7-twice-text-holds = lines (jobOf M7-twice 1) M7-twice-text-passes ∙ ap (flatMap lineOf) M7-records-holds
 
 -- M7: cells (0,1,2), (1,2,0), batch 1: 7. M8: M planned with batch 0: 5. Beside the paper's: the job of M4 one byte short, and one byte longer, is 12; a whole job
 -- of 65 cells is 13

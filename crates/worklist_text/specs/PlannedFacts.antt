@@ -1,19 +1,25 @@
 -- What the text of a planning rests on: its length, what planning leaves, and that the lists' lengths are the only thing of them that it reads.
 -- Assumes nothing.
 use Prim.Native.Nat.{ℕ, zero, suc, _*_, _≤_, _<_, min}
-use native.Mathlib.Nat.{mul-le-mul}
+use native.Mathlib.Nat.{mul-le-mul, zero-mul, le-refl, le-of-suc-le-suc}
 use native.Mathlib.Omega.{arith}
 use mathlib.Core.Path.{_≡_, refl, sym, ap, _∙_}
 use mathlib.Core.Bool.{Bool, true, false}
 use mathlib.Core.List.{List, [], _∷_, _++_}
-use lib.ListN.{length, replicate, length-replicate}
+use lib.ListN.{length, take, replicate, length-replicate}
 use borrow.Author.Tests.{eq-eqb}
 use Rattle.lists.specs.Bool.{every-of, _also_, end}
 use Rattle.lists.specs.Range.{AllIn, all-in-append, all-in-weaken}
 use Rattle.lists.specs.Refusals.{Check, check, unless, refusal}
 use Rattle.lists.specs.Writes.{numbers, Wrote, Room}
-use Rattle.grid.specs.Mesh.{meshChecks}
-use Rattle.function.specs.Elements.{mostDim, dim, dimsRight}
+use Rattle.numbers.specs.Ranges.{within-high}
+use Rattle.grid.specs.declared.Sizes.{Sizes}
+use Rattle.grid.specs.CellsFacts.{before-same}
+use Rattle.grid.specs.Mesh.{meshWith, meshOf, triangles, cellsOf, meshChecks}
+use Rattle.grid.specs.KindsFacts.{kind-present}
+use Rattle.function.specs.declared.Elements.{Elements}
+use Rattle.function.specs.Elements.{mostDim, dim, elementOf, cellDim, elementsRight}
+use Rattle.function.specs.ElementsFacts.{dim-three}
 use Rattle.integrands.specs.Terms.{integrandRight}
 use Rattle.cell_pairs.specs.Patterns.{patternsRight}
 use Rattle.cell_pairs.specs.WorkList.{workList}
@@ -23,9 +29,11 @@ use Rattle.cell_pairs.specs.Counting.{length-work}
 use Rattle.plans.specs.declared.Planned.{Planned}
 use Rattle.plans.specs.declared.PlanNumbers.{PlanNumbers}
 use Rattle.plans.specs.declared.Planned.the-variants.{Ready as ready, Refused as refused}
-use Rattle.plans.specs.Planning.{Planning, Lists, listsFor, batchRight, lengthsRight, planRefusal, planAnswer, plan, planLists, writtenLists, workRecords}
+use Rattle.plans.specs.Planning.{Planning, Lists, listsFor, dofPlaces, placesOn, elementsFit, batchRight, lengthsRight, planRefusal, planAnswer, plan, planLists, writtenLists, workRecords}
 use Rattle.plans.specs.Accepted.{accepted, counted, ready-is}
-use Rattle.planning.specs.Facts.{dims-small}
+use Rattle.planning.specs.declared.Assembly.{Assembly}
+use Rattle.planning.specs.Arguments.{planningWith}
+use Rattle.planning.specs.Facts.{both-right}
 use Rattle.job.specs.Job.{mostWorklistCells}
 use Rattle.worklist_text.specs.Text.{refusedLine}
 use Rattle.worklist_text.specs.Lines.{linesOf}
@@ -43,7 +51,7 @@ refusal-after (c ∷ cs) ds es e = ap (unless (c .passes) (c .number)) (refusal-
 -- checks 4 to 8, where check 8 says b
 abbrev fromFour : Planning → Bool → List Check
 fromFour x b =
-    check 4 (dimsRight (x .test) (x .trial))
+    check 4 (elementsFit x)
     ∷ check 5 (batchRight (x .batch))
     ∷ check 6 (integrandRight (x .integrand))
     ∷ check 7 (patternsRight (x .mesh))
@@ -52,13 +60,13 @@ fromFour x b =
 
 -- whether the lists are as long as they should be
 abbrev pub sized : Planning → Lists → Bool
-sized x l = lengthsRight (x .mesh .cells) (x .test) (x .trial) l
+sized x l = lengthsRight (x .mesh) (x .test) (x .trial) l
 
--- of the lists planning reads the lengths alone, and those where the dims are right
-pub same-refusal : (x : Planning) (l l′ : Lists) → (dimsRight (x .test) (x .trial) ≡ true → sized x l ≡ sized x l′) → planRefusal x l ≡ planRefusal x l′
+-- of the lists planning reads the lengths alone, and those where the elements are right
+pub same-refusal : (x : Planning) (l l′ : Lists) → (elementsFit x ≡ true → sized x l ≡ sized x l′) → planRefusal x l ≡ planRefusal x l′
 unfolding planRefusal refusal unless
 same-refusal x l l′ h =
-    refusal-after (meshChecks (x .mesh)) (fromFour x (sized x l)) (fromFour x (sized x l′)) (go (dimsRight (x .test) (x .trial)) h)
+    refusal-after (meshChecks (x .mesh)) (fromFour x (sized x l)) (fromFour x (sized x l′)) (go (elementsFit x) h)
   where
     later : Bool → ℕ
     later b =
@@ -75,12 +83,12 @@ same-refusal x l l′ h =
 
 -- lists of the right lengths
 pub sized-by : (x : Planning) (l : Lists)
-    → length (l .testDofs) ≡ x .mesh .cells * dim (x .test)
-    → length (l .trialDofs) ≡ x .mesh .cells * dim (x .trial)
+    → length (l .testDofs) ≡ placesOn (x .mesh) (x .test)
+    → length (l .trialDofs) ≡ placesOn (x .mesh) (x .trial)
     → length (l .testColours) ≡ x .mesh .cells
     → length (l .trialColours) ≡ x .mesh .cells
-    → length (l .testOwners) ≡ 3 * (x .mesh .cells * dim (x .test))
-    → length (l .trialOwners) ≡ 3 * (x .mesh .cells * dim (x .trial))
+    → length (l .testOwners) ≡ 3 * placesOn (x .mesh) (x .test)
+    → length (l .trialOwners) ≡ 3 * placesOn (x .mesh) (x .trial)
     → length (l .work) ≡ 3 * (x .mesh .cells * x .mesh .cells)
     → sized x l ≡ true
 unfolding lengthsRight
@@ -91,7 +99,24 @@ pub sized-for : (x : Planning) → sized x (listsFor x) ≡ true
 sized-for x =
     let zeros : (n : ℕ) → length {A = ℕ} (replicate n 0) ≡ n = λ n. length-replicate n 0 in
     let C = x .mesh .cells in
-    sized-by x (listsFor x) (zeros (C * dim (x .test))) (zeros (C * dim (x .trial))) (zeros C) (zeros C) (zeros (3 * (C * dim (x .test)))) (zeros (3 * (C * dim (x .trial)))) (zeros (3 * (C * C)))
+    let rows = placesOn (x .mesh) (x .test) in
+    let columns = placesOn (x .mesh) (x .trial) in
+    sized-by x (listsFor x) (zeros rows) (zeros columns) (zeros C) (zeros C) (zeros (3 * rows)) (zeros (3 * columns)) (zeros (3 * (C * C)))
+
+-- ---- triangles
+
+take-replicate : (n m x : ℕ) → n ≤ m → take n (replicate m x) ≡ replicate n x
+take-replicate zero m x h = refl
+take-replicate (suc n) zero x h = absurd (omega arith)
+take-replicate (suc n) (suc m) x h = ap (λ (l : List ℕ). x ∷ l) (take-replicate n m x (le-of-suc-le-suc h))
+
+-- the front of a list of the most triangles
+module _ {C n : ℕ} (count : n ≡ C) (few : C ≤ mostWorklistCells) where
+  pub front : take n (triangles mostWorklistCells) ≡ triangles C
+  front = rw count (take-replicate C mostWorklistCells 3 few)
+
+  pub front-length : n ≡ length (take n (triangles mostWorklistCells))
+  front-length = count ∙ sym (ap length front ∙ length-replicate C 3)
 
 -- ---- lists whose lengths are made with dims cut to the most
 
@@ -102,35 +127,57 @@ few-places C d h k = mul-le-mul h k
 pub few-pairs : (C : ℕ) → C ≤ mostWorklistCells → C * C ≤ mostWorklistCells * mostWorklistCells
 few-pairs C h = mul-le-mul h h
 
--- the text is the same as with lists of the right lengths
-short-text : (x : Planning) (l : Lists)
-    → length (l .testDofs) ≡ x .mesh .cells * min mostDim (dim (x .test))
-    → length (l .trialDofs) ≡ x .mesh .cells * min mostDim (dim (x .trial))
-    → length (l .testColours) ≡ x .mesh .cells
-    → length (l .trialColours) ≡ x .mesh .cells
-    → length (l .testOwners) ≡ 3 * (x .mesh .cells * min mostDim (dim (x .test)))
-    → length (l .trialOwners) ≡ 3 * (x .mesh .cells * min mostDim (dim (x .trial)))
-    → length (l .work) ≡ 3 * (x .mesh .cells * x .mesh .cells)
-    → plannedText x l ≡ rightText x
-unfolding plannedText
-short-text x l e₁ e₂ e₃ e₄ e₅ e₆ e₇ = ap (λ (v : ℕ). answerText v x) (same-refusal x l (listsFor x) (λ h. right (dims-small (x .test) (x .trial) h) ∙ sym (sized-for x)))
-  where
-    right : (dim (x .test) ≤ mostDim) × (dim (x .trial) ≤ mostDim) → sized x l ≡ true
-    right h =
-        let t : min mostDim (dim (x .test)) ≡ dim (x .test) = omega arith in
-        let r : min mostDim (dim (x .trial)) ≡ dim (x .trial) = omega arith in
-        sized-by x l (rw t at e₁) (rw r at e₂) e₃ e₄ (rw t at e₅) (rw r at e₆) e₇
+-- check 4 of one side of C triangles
+abbrev fitsTriangles : ℕ → Elements → Bool
+fitsTriangles C es = elementsRight (cellsOf (triangles C) 3) (cellsOf (triangles C) 4) es
 
-pub short-wrote : (x : Planning) (l : Lists) {xs ys : List ℕ} {r : ℕ} → Wrote numbers xs ys 0 r (plannedText x l)
-    → length (l .testDofs) ≡ x .mesh .cells * min mostDim (dim (x .test))
-    → length (l .trialDofs) ≡ x .mesh .cells * min mostDim (dim (x .trial))
-    → length (l .testColours) ≡ x .mesh .cells
-    → length (l .trialColours) ≡ x .mesh .cells
-    → length (l .testOwners) ≡ 3 * (x .mesh .cells * min mostDim (dim (x .test)))
-    → length (l .trialOwners) ≡ 3 * (x .mesh .cells * min mostDim (dim (x .trial)))
-    → length (l .work) ≡ 3 * (x .mesh .cells * x .mesh .cells)
-    → Wrote numbers xs ys 0 r (rightText x)
-short-wrote x l w e₁ e₂ e₃ e₄ e₅ e₆ e₇ = rw (short-text x l e₁ e₂ e₃ e₄ e₅ e₆ e₇) at w
+-- where it passes, the lists are as long as the triangles' dims add up to
+short-places : (C : ℕ) (es : Elements) → fitsTriangles C es ≡ true → C * min mostDim (dim (es .triangle)) ≡ dofPlaces C (triangles C) es
+unfolding elementOf
+short-places C es right = go C right ∙ sym (before-same (cellDim es) C 3 C (le-refl C))
+  where
+    go : (n : ℕ) → fitsTriangles n es ≡ true → n * min mostDim (dim (es .triangle)) ≡ n * dim (es .triangle)
+    go zero r = zero-mul _ ∙ sym (zero-mul _)
+    go (suc n) r =
+        let some : 0 < cellsOf (triangles (suc n)) 3 = kind-present (triangles (suc n)) 3 0 (omega (arith, length-replicate {A = ℕ} (suc n) 3)) refl in
+        let small : dim (es .triangle) ≤ mostDim = within-high 1 mostDim _ (dim-three _ _ es r some) in
+        let whole : min mostDim (dim (es .triangle)) ≡ dim (es .triangle) = omega arith in
+        ap (λ (d : ℕ). suc n * d) whole
+
+-- the text is the same as with lists of the right lengths
+short-text : (s : Sizes) (vertices edges : List ℕ) (a : Assembly) (l : Lists)
+    → length (l .testDofs) ≡ s .cells * min mostDim (dim (a .test .triangle))
+    → length (l .trialDofs) ≡ s .cells * min mostDim (dim (a .trial .triangle))
+    → length (l .testColours) ≡ s .cells
+    → length (l .trialColours) ≡ s .cells
+    → length (l .testOwners) ≡ 3 * (s .cells * min mostDim (dim (a .test .triangle)))
+    → length (l .trialOwners) ≡ 3 * (s .cells * min mostDim (dim (a .trial .triangle)))
+    → length (l .work) ≡ 3 * (s .cells * s .cells)
+    → plannedText (planningWith (meshOf s vertices edges) a) l ≡ rightText (planningWith (meshOf s vertices edges) a)
+unfolding plannedText
+short-text s vertices edges a l e₁ e₂ e₃ e₄ e₅ e₆ e₇ =
+    ap (λ (v : ℕ). answerText v x) (same-refusal x l (listsFor x) (λ h. right (both-right _ _ (a .test) (a .trial) h) ∙ sym (sized-for x)))
+  where
+    x : Planning
+    x = planningWith (meshOf s vertices edges) a
+
+    right : (fitsTriangles (s .cells) (a .test) ≡ true) × (fitsTriangles (s .cells) (a .trial) ≡ true) → sized x l ≡ true
+    right h =
+        let t = short-places (s .cells) (a .test) (h .0) in
+        let r = short-places (s .cells) (a .trial) (h .1) in
+        sized-by x l (e₁ ∙ t) (e₂ ∙ r) e₃ e₄ (e₅ ∙ ap (λ (n : ℕ). 3 * n) t) (e₆ ∙ ap (λ (n : ℕ). 3 * n) r) e₇
+
+pub short-wrote : (s : Sizes) (vertices edges : List ℕ) (a : Assembly) (l : Lists) {kinds xs ys : List ℕ} {r : ℕ} → kinds ≡ triangles (s .cells)
+    → Wrote numbers xs ys 0 r (plannedText (planningWith (meshWith s kinds vertices edges) a) l)
+    → length (l .testDofs) ≡ s .cells * min mostDim (dim (a .test .triangle))
+    → length (l .trialDofs) ≡ s .cells * min mostDim (dim (a .trial .triangle))
+    → length (l .testColours) ≡ s .cells
+    → length (l .trialColours) ≡ s .cells
+    → length (l .testOwners) ≡ 3 * (s .cells * min mostDim (dim (a .test .triangle)))
+    → length (l .trialOwners) ≡ 3 * (s .cells * min mostDim (dim (a .trial .triangle)))
+    → length (l .work) ≡ 3 * (s .cells * s .cells)
+    → Wrote numbers xs ys 0 r (rightText (planningWith (meshOf s vertices edges) a))
+short-wrote s vertices edges a l k w e₁ e₂ e₃ e₄ e₅ e₆ e₇ = rw (short-text s vertices edges a l e₁ e₂ e₃ e₄ e₅ e₆ e₇) at (rw k at w)
 
 -- ---- what planning answers
 

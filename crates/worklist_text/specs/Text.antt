@@ -6,6 +6,7 @@ use mathlib.Core.List.{List, [], _∷_, _++_, flatMap}
 use lib.Dec.{ltb}
 use Rattle.lists.specs.Refusals.{refusal}
 use Rattle.grid.specs.Mesh.{triangles}
+use Rattle.function.specs.Elements.{alike}
 use Rattle.cell_pairs.specs.declared.WorkRecord.{WorkRecord}
 use Rattle.integrands.specs.declared.Integrand.{Integrand}
 use Rattle.integrands.specs.declared.Term.the-variants.{Bare}
@@ -34,13 +35,13 @@ refusedLine n = 114 ∷ 101 ∷ 102 ∷ 117 ∷ 115 ∷ 101 ∷ 100 ∷ 32 ∷ d
 abbrev pub bareZero : Integrand
 bareZero = record { terms = 1; first = Bare 0; second = Bare 0 }
 
--- what planning is given: a job's numbers with its vertices and edges, and that term
+-- what planning is given: a job's numbers with its vertices and edges, whose cells are triangles, and that term
 abbrev pub numbersPlanning : JobNumbers → List ℕ → List ℕ → Planning
 numbersPlanning n cellVertices cellEdges =
     record {
       mesh = record { cells = n .cells; vertices = n .vertices; edges = n .edges; kinds = triangles (n .cells); cellVertices = cellVertices; cellEdges = cellEdges };
-      test = n .test;
-      trial = n .trial;
+      test = alike (n .test);
+      trial = alike (n .trial);
       batch = n .batch;
       integrand = bareZero;
     }

@@ -3,6 +3,7 @@ use crate::text::put_lines;
 use crate::text::put_refused;
 use cell_pairs::WIDTH;
 use function::Element;
+use function::Elements;
 use function::MOST_DIM;
 use grid::Sizes;
 use integrands::Integrand;
@@ -36,11 +37,11 @@ const PAIRS: usize = CELLS * CELLS;
 // The most bytes of the text: a line of at most 12 for each pair.
 pub const MOST_TEXT: usize = 12 * PAIRS;
 
-// A dim for the length of a list: one above the most is refused before the lists' lengths are read.
+// A triangle's dim for the length of a list: one above the most is refused before the lists' lengths are read.
 fn short_dim(element: Element) -> usize
     ensures { λ r. ⌜ r ≡ min mostDim (dim element) ⌝ }
 {
-    let d = element.dim();
+    let d = element.dim(3);
     if d < MOST_DIM { d } else { MOST_DIM }
 }
 
@@ -70,7 +71,7 @@ fn room(list: &mut [u32], n: usize) -> &mut [u32]
     &mut list[start..n]
 }
 
-// Plans with lists of the right lengths, and writes the work list's lines, or what is refused.
+// Plans a mesh of triangles with lists of the right lengths, and writes the work list's lines, or what is refused.
 fn put_mesh(
     sizes: Sizes,
     cell_vertices: &[u32],
@@ -85,9 +86,10 @@ fn put_mesh(
     let test = assembly.test;
     let trial = assembly.trial;
     let c = wide(sizes.cells);
-    let rows = dof_places(sizes.cells, test);
-    let columns = dof_places(sizes.cells, trial);
+    let rows = dof_places(sizes.cells, test.triangle);
+    let columns = dof_places(sizes.cells, trial.triangle);
     let pairs = pair_count(sizes.cells);
+    let kinds = [3u8; CELLS];
     let mut test_dofs = [0u32; DOFS];
     let mut trial_dofs = [0u32; DOFS];
     let mut test_colours = [0u32; CELLS];
@@ -104,6 +106,7 @@ fn put_mesh(
     let work = room(&mut work, WIDTH * pairs);
     let planned = plan(
         sizes,
+        &kinds[..c],
         cell_vertices,
         cell_edges,
         assembly,
@@ -136,6 +139,14 @@ fn put_numbers(job: JobNumbers, vertex_list: &[u32], edge_list: &[u32], text: &m
     };
     let test = job.test;
     let trial = job.trial;
+    let test = Elements {
+        triangle: test,
+        quad: test,
+    };
+    let trial = Elements {
+        triangle: trial,
+        quad: trial,
+    };
     let integrand = Integrand {
         terms: 1,
         first: Term::Bare(0),

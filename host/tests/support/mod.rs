@@ -17,19 +17,63 @@ pub struct OwnedMesh {
     pub cells: u32,
     pub vertices: u32,
     pub edges: u32,
+    pub kinds: Vec<u8>,
     pub cell_vertices: Vec<u32>,
     pub cell_edges: Vec<u32>,
 }
 
+/// The local vertices that the local edges of a cell of that kind join.
+pub fn ends(kind: u8) -> &'static [(usize, usize)] {
+    match kind {
+        TRIANGLE => &[(1, 2), (0, 2), (0, 1)],
+        _ => &[(0, 1), (0, 2), (1, 3), (2, 3)],
+    }
+}
+
 impl OwnedMesh {
+    /// A mesh of cells with these vertices. Edges get their numbers as they are met, cell after cell.
+    pub fn of_cells(vertices: u32, cells: &[Vec<u32>]) -> OwnedMesh {
+        let mut numbers = std::collections::HashMap::new();
+        let mut cell_edges = Vec::new();
+        for cell in cells {
+            for &(k, l) in ends(cell.len() as u8) {
+                let two = (cell[k].min(cell[l]), cell[k].max(cell[l]));
+                let next = numbers.len() as u32;
+                cell_edges.push(*numbers.entry(two).or_insert(next));
+            }
+        }
+        OwnedMesh {
+            cells: cells.len() as u32,
+            vertices,
+            edges: numbers.len() as u32,
+            kinds: cells.iter().map(|cell| cell.len() as u8).collect(),
+            cell_vertices: cells.concat(),
+            cell_edges,
+        }
+    }
+
     pub fn lent(&self) -> Mesh<'_> {
         Mesh {
             cells: self.cells,
             vertices: self.vertices,
             edges: self.edges,
+            kinds: &self.kinds,
             cell_vertices: &self.cell_vertices,
             cell_edges: &self.cell_edges,
         }
+    }
+
+    /// The numbers of each cell in a flat list.
+    pub fn each<'a>(&self, list: &'a [u32]) -> Vec<&'a [u32]> {
+        let mut rest = list;
+        self.kinds
+            .iter()
+            .map(|kind| {
+                let (cell, after) = rest.split_at(usize::from(*kind));
+                rest = after;
+                cell
+            })
+            .collect()
     }
 }
 
@@ -39,6 +83,7 @@ pub fn mesh_m() -> OwnedMesh {
         cells: 3,
         vertices: 7,
         edges: 8,
+        kinds: vec![TRIANGLE; 3],
         cell_vertices: vec![0, 1, 2, 1, 3, 2, 4, 5, 6],
         cell_edges: vec![0, 1, 2, 3, 0, 4, 5, 6, 7],
     }
@@ -50,6 +95,7 @@ pub fn octahedron() -> OwnedMesh {
         cells: 8,
         vertices: 6,
         edges: 12,
+        kinds: vec![TRIANGLE; 8],
         cell_vertices: vec![
             0, 2, 4, 2, 1, 4, 1, 3, 4, 3, 0, 4, 2, 0, 5, 1, 2, 5, 3, 1, 5, 0, 3, 5,
         ],
@@ -59,42 +105,69 @@ pub fn octahedron() -> OwnedMesh {
     }
 }
 
+/// A triangle and a quad that share an edge.
+pub fn edge_shared() -> OwnedMesh {
+    OwnedMesh {
+        cells: 2,
+        vertices: 5,
+        edges: 6,
+        kinds: vec![TRIANGLE, QUAD],
+        cell_vertices: vec![0, 1, 2, 1, 3, 2, 4],
+        cell_edges: vec![0, 1, 2, 3, 0, 4, 5],
+    }
+}
+
+/// The same two, and a triangle and a quad that share nothing.
+pub fn edge_shared_and_two_more() -> OwnedMesh {
+    OwnedMesh {
+        cells: 4,
+        vertices: 12,
+        edges: 13,
+        kinds: vec![TRIANGLE, QUAD, TRIANGLE, QUAD],
+        cell_vertices: vec![0, 1, 2, 1, 3, 2, 4, 5, 6, 7, 8, 9, 10, 11],
+        cell_edges: vec![0, 1, 2, 3, 0, 4, 5, 6, 7, 8, 9, 10, 11, 12],
+    }
+}
+
 /// A square of n times n squares, each cut into two triangles.
 pub fn square(n: u32) -> OwnedMesh {
     let at = |i: u32, j: u32| i + (n + 1) * j;
-    let mut edges: Vec<(u32, u32)> = Vec::new();
-    let mut numbers = std::collections::HashMap::new();
-    let mut mesh = OwnedMesh {
-        cells: 2 * n * n,
-        vertices: (n + 1) * (n + 1),
-        edges: 0,
-        cell_vertices: Vec::new(),
-        cell_edges: Vec::new(),
-    };
+    let mut cells = Vec::new();
     for j in 0..n {
         for i in 0..n {
-            for cell in [
-                [at(i, j), at(i + 1, j), at(i, j + 1)],
-                [at(i + 1, j + 1), at(i, j + 1), at(i + 1, j)],
-            ] {
-                mesh.cell_vertices.extend(cell);
-                for (k, l) in [(1, 2), (0, 2), (0, 1)] {
-                    let ends = (cell[k].min(cell[l]), cell[k].max(cell[l]));
-                    let number = *numbers.entry(ends).or_insert_with(|| {
-                        edges.push(ends);
-                        edges.len() as u32 - 1
-                    });
-                    mesh.cell_edges.push(number);
-                }
-            }
+            cells.push(vec![at(i, j), at(i + 1, j), at(i, j + 1)]);
+            cells.push(vec![at(i + 1, j + 1), at(i, j + 1), at(i + 1, j)]);
         }
     }
-    mesh.edges = edges.len() as u32;
-    mesh
+    OwnedMesh::of_cells((n + 1) * (n + 1), &cells)
+}
+
+/// The patterns in the order of the table: of test kind n and trial kind k one shared vertex, a shared edge in both directions, and the identical cell. Each is a
+/// list of (test place, trial place).
+pub fn table() -> Vec<(u8, u8, Vec<(usize, usize)>)> {
+    let mut table = Vec::new();
+    for (n, k) in [(3, 3), (3, 4), (4, 3), (4, 4)] {
+        for i in 0..usize::from(n) {
+            for j in 0..usize::from(k) {
+                table.push((n, k, vec![(i, j)]));
+            }
+        }
+        for &(e0, e1) in ends(n) {
+            for &(g0, g1) in ends(k) {
+                table.push((n, k, vec![(e0, g0), (e1, g1)]));
+                table.push((n, k, vec![(e1, g0), (e0, g1)]));
+            }
+        }
+        if n == k {
+            table.push((n, k, (0..usize::from(n)).map(|i| (i, i)).collect()));
+        }
+    }
+    table
 }
 
 #[derive(Clone, Debug, PartialEq, Eq)]
 pub struct OwnedLists {
+    pub kinds: Vec<u8>,
     pub test_dofs: Vec<u32>,
     pub trial_dofs: Vec<u32>,
     pub test_colours: Vec<u32>,
@@ -105,15 +178,17 @@ pub struct OwnedLists {
 }
 
 impl OwnedLists {
-    /// Lists of the right lengths.
-    pub fn blank(cells: usize, test: Element, trial: Element) -> OwnedLists {
+    /// The mesh's kinds, and lists of the right lengths.
+    pub fn blank(kinds: &[u8], test: Elements, trial: Elements) -> OwnedLists {
+        let cells = kinds.len();
         OwnedLists {
-            test_dofs: vec![BLANK; cells * test.dim()],
-            trial_dofs: vec![BLANK; cells * trial.dim()],
+            kinds: kinds.to_vec(),
+            test_dofs: vec![BLANK; test.places(kinds)],
+            trial_dofs: vec![BLANK; trial.places(kinds)],
             test_colours: vec![BLANK; cells],
             trial_colours: vec![BLANK; cells],
-            test_owners: vec![BLANK; 3 * cells * test.dim()],
-            trial_owners: vec![BLANK; 3 * cells * trial.dim()],
+            test_owners: vec![BLANK; 3 * test.places(kinds)],
+            trial_owners: vec![BLANK; 3 * trial.places(kinds)],
             work: vec![BLANK; 3 * cells * cells],
         }
     }
@@ -132,27 +207,39 @@ impl OwnedLists {
 
     pub fn plan(&self) -> Plan<'_> {
         Plan {
+            kinds: &self.kinds,
             test_dofs: &self.test_dofs,
             trial_dofs: &self.trial_dofs,
             work: &self.work,
         }
     }
 
-    /// The DOFs of a cell.
-    pub fn dofs(list: &[u32], dim: usize, cell: u32) -> &[u32] {
-        &list[dim * cell as usize..][..dim]
+    /// The DOFs of a cell of test.
+    pub fn test_dofs_of(&self, elements: Elements, cell: u32) -> &[u32] {
+        self.dofs_of(&self.test_dofs, elements, cell)
+    }
+
+    /// The DOFs of a cell of trial.
+    pub fn trial_dofs_of(&self, elements: Elements, cell: u32) -> &[u32] {
+        self.dofs_of(&self.trial_dofs, elements, cell)
+    }
+
+    fn dofs_of<'a>(&self, list: &'a [u32], elements: Elements, cell: u32) -> &'a [u32] {
+        let cell = cell as usize;
+        &list[elements.places(&self.kinds[..cell])..][..elements.dim(self.kinds[cell])]
     }
 }
 
 /// Plans on lists of the right lengths.
 pub fn planned(
     mesh: &OwnedMesh,
-    test: Element,
-    trial: Element,
+    test: impl Into<Elements>,
+    trial: impl Into<Elements>,
     batch: u32,
     integrand: Integrand,
 ) -> (Numbers, OwnedLists) {
-    let mut lists = OwnedLists::blank(mesh.cells as usize, test, trial);
+    let (test, trial) = (test.into(), trial.into());
+    let mut lists = OwnedLists::blank(&mesh.kinds, test, trial);
     let numbers = plan(mesh.lent(), test, trial, batch, integrand, lists.lent())
         .expect("the planning is good");
     (numbers, lists)
@@ -204,7 +291,8 @@ pub struct OwnedDistant {
 }
 
 impl OwnedDistant {
-    pub fn new(t: usize, r: usize, test: Element, trial: Element, seed: u64) -> OwnedDistant {
+    /// For cells with these dims.
+    pub fn new(t: usize, r: usize, test: usize, trial: usize, seed: u64) -> OwnedDistant {
         OwnedDistant::wide(NARROW, t, r, test, trial, seed)
     }
 
@@ -212,8 +300,8 @@ impl OwnedDistant {
         w: Widths,
         t: usize,
         r: usize,
-        test: Element,
-        trial: Element,
+        test: usize,
+        trial: usize,
         seed: u64,
     ) -> OwnedDistant {
         OwnedDistant {
@@ -221,8 +309,8 @@ impl OwnedDistant {
             trial_points: r,
             test_weights: numbers(t, seed),
             trial_weights: numbers(r, seed + 1),
-            test_table: numbers(w.d * t * test.dim(), seed + 2),
-            trial_table: numbers(w.d * r * trial.dim(), seed + 3),
+            test_table: numbers(w.d * t * test, seed + 2),
+            trial_table: numbers(w.d * r * trial, seed + 3),
             kernel: numbers(w.k * t * r, seed + 4),
             test_geometry: numbers(10 * t, seed + 5),
             trial_geometry: numbers(10 * r, seed + 6),
@@ -274,22 +362,17 @@ pub struct OwnedTouching {
 }
 
 impl OwnedTouching {
-    pub fn new(points: usize, test: Element, trial: Element, seed: u64) -> OwnedTouching {
+    /// For cells with these dims.
+    pub fn new(points: usize, test: usize, trial: usize, seed: u64) -> OwnedTouching {
         OwnedTouching::wide(NARROW, points, test, trial, seed)
     }
 
-    pub fn wide(
-        w: Widths,
-        points: usize,
-        test: Element,
-        trial: Element,
-        seed: u64,
-    ) -> OwnedTouching {
+    pub fn wide(w: Widths, points: usize, test: usize, trial: usize, seed: u64) -> OwnedTouching {
         OwnedTouching {
             points,
             weights: numbers(points, seed),
-            test_table: numbers(w.d * points * test.dim(), seed + 1),
-            trial_table: numbers(w.d * points * trial.dim(), seed + 2),
+            test_table: numbers(w.d * points * test, seed + 1),
+            trial_table: numbers(w.d * points * trial, seed + 2),
             kernel: numbers(w.k * points, seed + 3),
             test_geometry: numbers(10 * points, seed + 4),
             trial_geometry: numbers(10 * points, seed + 5),

@@ -1,4 +1,4 @@
--- `patterns::all_three` meets its contract: each return has the test that led there. Assumes nothing.
+-- `cell_patterns::all_three` meets its contract: each return has the test that led there. Assumes nothing.
 use Rattle.lists.specs.Bool.{_and_}
 use Rattle.cell_patterns.proofs.all_three.Statement.{statement}
 use Rattle.cell_patterns.proofs.all_three.Tie as tie

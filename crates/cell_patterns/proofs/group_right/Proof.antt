@@ -13,10 +13,10 @@ use Rattle.cell_patterns.proofs.group_right.Statement.{statement}
 use Rattle.cell_patterns.proofs.group_right.Tie as tie
 
 abbrev Inv-loop : tie.InvT-loop
-Inv-loop vertices cells k₀ k-end k = (k ≤ length cells) × (all k (λ n. all (length cells) (λ l. pairRight vertices (getD cells n 0) (getD cells l 0))) ≡ true)
+Inv-loop rows none cells k₀ k-end k = (k ≤ length cells) × (all k (λ n. all (length cells) (λ l. pairRight none rows (getD cells n 0) (getD cells l 0))) ≡ true)
 
 abbrev μ-loop : tie.MeasureT-loop
-μ-loop vertices cells k₀ k-end k = k-end - k
+μ-loop rows none cells k₀ k-end k = k-end - k
 
 loop-holds : tie.Need-loop-holds Inv-loop μ-loop
 loop-holds c = (omega arith, all-none _)

@@ -1,7 +1,7 @@
 -- `cell_patterns::groups_right` meets its contract. The invariant of its loop: the cells at the vertices below v pass. Assumes nothing.
 use mathlib.Core.Path.{_≡_, sym}
 use mathlib.Core.Bool.{true}
-use Prim.Native.Nat.{_≤_, _-_}
+use Prim.Native.Nat.{_<_, _≤_, _-_}
 use native.Mathlib.Omega.{arith}
 use lib.ListN.{length}
 use Rattle.lists.specs.Bool.{turned, passed}
@@ -13,27 +13,34 @@ use Rattle.cell_patterns.proofs.groups_right.Statement.{statement}
 use Rattle.cell_patterns.proofs.groups_right.Tie as tie
 
 abbrev Inv-loop : tie.InvT-loop
-Inv-loop vertices order ends v₀ v-end v = (v ≤ length ends) × (all v (λ n. groupRight vertices (part order ends n)) ≡ true)
+Inv-loop rows none order ends v₀ v-end v = (v-end ≡ none) × (v ≤ none) × (all v (λ n. groupRight none rows (part order ends n)) ≡ true)
 
 abbrev μ-loop : tie.MeasureT-loop
-μ-loop vertices order ends v₀ v-end v = v-end - v
+μ-loop rows none order ends v₀ v-end v = v-end - v
+
+wide-requires : tie.Need-wide-requires Inv-loop μ-loop
+wide-requires c κs = search needs
 
 loop-holds : tie.Need-loop-holds Inv-loop μ-loop
-loop-holds c = (omega arith, all-none _)
+loop-holds c = (c .wide .ensures, omega arith, all-none _)
 
 part-of-requires : tie.Need-part-of-requires Inv-loop μ-loop
 part-of-requires c κs =
-    let cut = c .before .before .before .before .before .pre .0 in
-    let h = c .loop-test .taken in
-    (h, (cut .rise _ h, cut .within _ h))
+    let pre = c .before .before .before .before .before .before .pre in
+    let h : c .before .loop .v < length (c .before .before .before .before .before .before .args .ends .now) = omega (arith, c .loop-test .taken, c .before .loop .inv .0, pre .1 .1) in
+    (h, (pre .0 .rise _ h, pre .0 .within _ h))
 
 group-right-requires : tie.Need-group-right-requires Inv-loop μ-loop
 group-right-requires c κs =
-    let pre = c .before .before .before .before .before .before .pre in
-    rw (c .part-of .ensures) (pre .0 .cells _ (c .before .loop-test .taken), pre .1)
+    let l = c .before .before in
+    let pre = c .before .before .before .before .before .before .before .pre in
+    let h : l .loop .v < length (c .before .before .before .before .before .before .before .args .ends .now) = omega (arith, c .before .loop-test .taken, l .loop .inv .0, pre .1 .1) in
+    rw (c .part-of .ensures) (pre .0 .cells _ h, pre .1 .0)
 
 returns : tie.Need-returns Inv-loop μ-loop
-returns c = sym (all-fails _ _ _ (c .before .before .before .loop-test .taken) (turned (rw (c .before .before .part-of .ensures) at (c .before .group-right .ensures)) (c .if1 .taken)))
+returns c =
+    let l = c .before .before .before .before in
+    sym (all-fails _ _ _ (omega (arith, c .before .before .before .loop-test .taken, l .loop .inv .0)) (turned (rw (c .before .before .part-of .ensures) at (c .before .group-right .ensures)) (c .if1 .taken)))
 
 add-v : tie.Need-add-v Inv-loop μ-loop
 add-v c = search needs
@@ -42,10 +49,12 @@ loop-less : tie.Need-loop-less Inv-loop μ-loop
 loop-less c = search needs
 
 loop-again : tie.Need-loop-again Inv-loop μ-loop
-loop-again c = (omega arith, all-more _ _ (c .before .before .before .before .loop .inv .1) (passed (rw (c .before .before .part-of .ensures) at (c .before .group-right .ensures)) (c .if1 .left)))
+loop-again c =
+    let l = c .before .before .before .before in
+    (l .loop .inv .0, omega (arith, c .before .before .before .loop-test .taken, l .loop .inv .0), all-more _ _ (l .loop .inv .2) (passed (rw (c .before .before .part-of .ensures) at (c .before .group-right .ensures)) (c .if1 .left)))
 
 returns-2 : tie.Need-returns-2 Inv-loop μ-loop
-returns-2 c = all-done _ _ _ (c .before .loop .inv .1) (omega arith)
+returns-2 c = let inv = c .before .loop .inv in all-done _ _ _ (inv .2) (omega (arith, inv .0, inv .1, c .loop-test .left))
 
 pub groups-right-spec : {M : Type 1} → statement M
 groups-right-spec =
@@ -53,6 +62,7 @@ groups-right-spec =
     (tie.spec
     Inv-loop
     μ-loop
+    wide-requires
     loop-holds
     part-of-requires
     group-right-requires

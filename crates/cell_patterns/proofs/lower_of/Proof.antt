@@ -1,4 +1,4 @@
--- `patterns::lower_of` meets its contract: each return has the test that led there. Assumes nothing.
+-- `cell_patterns::lower_of` meets its contract: each return has the test that led there. Assumes nothing.
 use Rattle.lists.specs.Bool.{_and_}
 use Rattle.cell_patterns.proofs.lower_of.Statement.{statement}
 use Rattle.cell_patterns.proofs.lower_of.Tie as tie

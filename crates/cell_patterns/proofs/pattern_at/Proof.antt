@@ -1,4 +1,4 @@
--- `patterns::pattern_at` meets its contract: each arm has the bits of its case. Assumes nothing.
+-- `cell_patterns::pattern_at` meets its contract: each arm has the bits of its case. Assumes nothing.
 use Rattle.cell_patterns.specs.Written.{arm, last-arm}
 use borrow.Author.Needs.{needs}
 use Rattle.cell_patterns.proofs.pattern_at.Statement.{statement}

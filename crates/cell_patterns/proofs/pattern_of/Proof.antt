@@ -1,74 +1,43 @@
--- `patterns::pattern_of` meets its contract: the pattern of the three places. Assumes nothing.
-use Rattle.cell_patterns.specs.PatternFacts.{found-places, found-pattern}
+-- `cell_patterns::pattern_of` meets its contract: two triangles, or cells of any kinds. Assumes nothing.
+use mathlib.Core.Path.{ap₂, _∙_}
+use Rattle.cell_pairs.specs.Patterns.{cellsPattern}
+use Rattle.cell_patterns.specs.PatternFacts.{cell-few, both-apart, both-have}
 use borrow.Author.Needs.{needs}
 use Rattle.cell_patterns.proofs.pattern_of.Statement.{statement}
 use Rattle.cell_patterns.proofs.pattern_of.Tie as tie
 
-mul-at : tie.Need-mul-at
-mul-at c = search needs
+both-triangles-requires : tie.Need-both-triangles-requires
+both-triangles-requires c κs = search needs
 
-mul-place-of : tie.Need-mul-place-of
-mul-place-of c = search needs
+triangles-pattern-requires : tie.Need-triangles-pattern-requires
+triangles-pattern-requires c κs = let s = c .before .before .before in (s .pre .0, both-apart (s .args .none) (s .args .rows .now) (s .args .i) (s .args .j) (c .before .both-triangles .ensures) (c .if1 .taken) (s .pre .1 .0) (s .pre .1 .1))
 
-shared-slice-read-place-of : tie.Need-shared-slice-read-place-of
-shared-slice-read-place-of c = search needs
+cell-of-requires : tie.Need-cell-of-requires
+cell-of-requires c κs = search needs
 
-place-of-requires : tie.Need-place-of-requires
-place-of-requires c κs = search needs
+cell-of-requires-2 : tie.Need-cell-of-requires-2
+cell-of-requires-2 c κs = search needs
 
-add-place-of : tie.Need-add-place-of
-add-place-of c = search needs
-
-mul-place-of-2 : tie.Need-mul-place-of-2
-mul-place-of-2 c = search needs
-
-shared-slice-read-place-of-2 : tie.Need-shared-slice-read-place-of-2
-shared-slice-read-place-of-2 c = search needs
-
-place-of-requires-2 : tie.Need-place-of-requires-2
-place-of-requires-2 c κs = search needs
-
-add-place-of-2 : tie.Need-add-place-of-2
-add-place-of-2 c = search needs
-
-mul-place-of-3 : tie.Need-mul-place-of-3
-mul-place-of-3 c = search needs
-
-shared-slice-read-place-of-3 : tie.Need-shared-slice-read-place-of-3
-shared-slice-read-place-of-3 c = search needs
-
-place-of-requires-3 : tie.Need-place-of-requires-3
-place-of-requires-3 c κs = search needs
-
-pattern-at-requires : tie.Need-pattern-at-requires
-pattern-at-requires c κs =
-    let b = c .before .before in
-    let a = b .before .before in
-    let s = a .before .before .before in
-    found-places (s .args .vertices .now) (s .args .i) (s .args .j) (a .place-of .ensures) (b .place-of2 .ensures) (c .place-of3 .ensures) (a .before .before .before .pre .1 .1)
+cells-pattern-requires : tie.Need-cells-pattern-requires
+cells-pattern-requires c κs = let s = c .before .before .before .before .before in
+    let a = cell-few (s .args .none) (s .args .rows .now) (s .args .i) in
+    let b = cell-few (s .args .none) (s .args .rows .now) (s .args .j) in
+    rw (c .before .cell-of .ensures, c .cell-of2 .ensures) (a .0, a .1, b .0, b .1, s .pre .1 .0)
 
 returns : tie.Need-returns
-returns c =
-    let b = c .before .before .before in
-    let a = b .before .before in
-    let s = a .before .before .before in
-    found-pattern (s .args .vertices .now) (s .args .i) (s .args .j) (a .place-of .ensures) (b .place-of2 .ensures) (c .before .place-of3 .ensures) (a .before .before .before .pre .1 .0) (c .pattern-at .ensures)
+returns c = let s = c .before .before .before .before in both-have (s .args .none) (s .args .rows .now) (s .args .i) (s .args .j) (c .before .before .both-triangles .ensures) (c .before .if1 .taken) cellsPattern (c .triangles-pattern .ensures)
+
+returns-2 : tie.Need-returns-2
+returns-2 c = c .cells-pattern .ensures ∙ ap₂ cellsPattern (c .before .before .cell-of .ensures) (c .before .cell-of2 .ensures)
 
 pub pattern-of-spec : {M : Type 1} → statement M
 pattern-of-spec =
     tie.close
     (tie.spec
-    mul-at
-    mul-place-of
-    shared-slice-read-place-of
-    place-of-requires
-    add-place-of
-    mul-place-of-2
-    shared-slice-read-place-of-2
-    place-of-requires-2
-    add-place-of-2
-    mul-place-of-3
-    shared-slice-read-place-of-3
-    place-of-requires-3
-    pattern-at-requires
-    returns)
+    both-triangles-requires
+    triangles-pattern-requires
+    cell-of-requires
+    cell-of-requires-2
+    cells-pattern-requires
+    returns
+    returns-2)

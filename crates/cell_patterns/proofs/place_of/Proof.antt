@@ -1,4 +1,4 @@
--- `patterns::place_of` meets its contract: each return has the tests that led there. Assumes nothing.
+-- `cell_patterns::place_of` meets its contract: each return has the tests that led there. Assumes nothing.
 use native.Mathlib.Nat.{add-zero}
 use borrow.Author.Tests.{eq-eqb, ne-eqb}
 use Rattle.cell_pairs.specs.MatchesFacts.{firstOf}

@@ -12,10 +12,10 @@ use Rattle.cell_patterns.proofs.row_right.Statement.{statement}
 use Rattle.cell_patterns.proofs.row_right.Tie as tie
 
 abbrev Inv-loop : tie.InvT-loop
-Inv-loop vertices cells i k₀ k-end k = (k ≤ length cells) × (all k (λ n. pairRight vertices i (getD cells n 0)) ≡ true)
+Inv-loop rows none cells i k₀ k-end k = (k ≤ length cells) × (all k (λ n. pairRight none rows i (getD cells n 0)) ≡ true)
 
 abbrev μ-loop : tie.MeasureT-loop
-μ-loop vertices cells i k₀ k-end k = k-end - k
+μ-loop rows none cells i k₀ k-end k = k-end - k
 
 loop-holds : tie.Need-loop-holds Inv-loop μ-loop
 loop-holds c = (omega arith, all-none _)
@@ -32,7 +32,7 @@ wide-requires c κs = search needs
 pair-right-requires : tie.Need-pair-right-requires Inv-loop μ-loop
 pair-right-requires c κs =
     let pre = c .before .before .before .before .before .before .pre in
-    let cell : 3 * c .wide .result + 3 ≤ length (c .before .before .before .before .before .before .args .vertices .now) = rw (c .wide .ensures) (pre .0 .cell _ (c .before .before .loop-test .taken)) in
+    let cell : 4 * c .wide .result + 4 ≤ length (c .before .before .before .before .before .before .args .rows .now) = rw (c .wide .ensures) (pre .0 .cell _ (c .before .before .loop-test .taken)) in
     ((pre .1 .1, cell), (pre .1 .0 .apart _ (pre .1 .1), pre .1 .0 .apart _ cell))
 
 returns : tie.Need-returns Inv-loop μ-loop

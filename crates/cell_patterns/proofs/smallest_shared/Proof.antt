@@ -1,4 +1,4 @@
--- `patterns::smallest_shared` meets its contract: three calls of `lower_of`, as in `lowest`. Assumes nothing.
+-- `cell_patterns::smallest_shared` meets its contract: four calls of `lower_of`, as in `lowest`. Assumes nothing.
 use Rattle.cell_patterns.specs.PatternFacts.{smallest-by}
 use borrow.Author.Needs.{needs}
 use Rattle.cell_patterns.proofs.smallest_shared.Statement.{statement}
@@ -31,6 +31,15 @@ mul-z c = search needs
 shared-slice-read-z : tie.Need-shared-slice-read-z
 shared-slice-read-z c = search needs
 
+add-w : tie.Need-add-w
+add-w c = search needs
+
+mul-w : tie.Need-mul-w
+mul-w c = search needs
+
+shared-slice-read-w : tie.Need-shared-slice-read-w
+shared-slice-read-w c = search needs
+
 has-entity-requires : tie.Need-has-entity-requires
 has-entity-requires c κs = search needs
 
@@ -58,15 +67,23 @@ wide-requires-3 c κs = search needs
 lower-of-requires-3 : tie.Need-lower-of-requires-3
 lower-of-requires-3 c κs = search needs
 
+has-entity-requires-4 : tie.Need-has-entity-requires-4
+has-entity-requires-4 c κs = search needs
+
+wide-requires-4 : tie.Need-wide-requires-4
+wide-requires-4 c κs = search needs
+
+lower-of-requires-4 : tie.Need-lower-of-requires-4
+lower-of-requires-4 c κs = search needs
+
 returns : tie.Need-returns
 returns c =
-    let m = c .before .before .before in
-    let l = m .before .before .before in
-    let s = c .before .before .before .before .before .before .before .before .before .before .before .before .before in
-    smallest-by (s .args .vertices .now) (s .args .top) (s .args .i) (s .args .j)
-    (l .before .before .has-entity .ensures) (l .before .wide .ensures) (l .lower-of .ensures)
-    (m .before .before .has-entity2 .ensures) (m .before .wide2 .ensures) (m .lower-of2 .ensures)
-    (c .before .before .has-entity3 .ensures) (c .before .wide3 .ensures) (c .lower-of3 .ensures)
+    let s = c .before .before .before .before .before .before .before .before .before .before .before .before .before .before .before .before .before in
+    smallest-by (s .args .rows .now) (s .args .top) (s .args .i) (s .args .j)
+    (c .before .before .before .before .before .before .before .before .before .before .before .has-entity .ensures) (c .before .before .before .before .before .before .before .before .before .before .wide .ensures) (c .before .before .before .before .before .before .before .before .before .lower-of .ensures)
+    (c .before .before .before .before .before .before .before .before .has-entity2 .ensures) (c .before .before .before .before .before .before .before .wide2 .ensures) (c .before .before .before .before .before .before .lower-of2 .ensures)
+    (c .before .before .before .before .before .has-entity3 .ensures) (c .before .before .before .before .wide3 .ensures) (c .before .before .before .lower-of3 .ensures)
+    (c .before .before .has-entity4 .ensures) (c .before .wide4 .ensures) (c .lower-of4 .ensures)
 
 pub smallest-shared-spec : {M : Type 1} → statement M
 smallest-shared-spec =
@@ -81,6 +98,9 @@ smallest-shared-spec =
     add-z
     mul-z
     shared-slice-read-z
+    add-w
+    mul-w
+    shared-slice-read-w
     has-entity-requires
     wide-requires
     lower-of-requires
@@ -90,4 +110,7 @@ smallest-shared-spec =
     has-entity-requires-3
     wide-requires-3
     lower-of-requires-3
+    has-entity-requires-4
+    wide-requires-4
+    lower-of-requires-4
     returns)

@@ -1,7 +1,8 @@
--- `distant_pairs::has_one_of` meets its contract: each vertex of the cell is compared with the three. Assumes nothing.
+-- `distant_pairs::has_one_of` meets its contract: each number of the row is compared with the four. Assumes nothing.
 use native.Mathlib.Nat.{add-zero}
 use Rattle.lists.specs.Bool.{_or_}
 use Rattle.lists.specs.Bounded.{some}
+use Rattle.grid.specs.Cells.{has, share}
 use Rattle.distant_pairs.specs.Distant.{hasOneOf}
 use borrow.Author.Needs.{needs}
 use Rattle.distant_pairs.proofs.has_one_of.Statement.{statement}
@@ -34,8 +35,17 @@ mul-z c = search needs
 shared-slice-read-z : tie.Need-shared-slice-read-z
 shared-slice-read-z c = search needs
 
+add-w : tie.Need-add-w
+add-w c = search needs
+
+mul-w : tie.Need-mul-w
+mul-w c = search needs
+
+shared-slice-read-w : tie.Need-shared-slice-read-w
+shared-slice-read-w c = search needs
+
 returns : tie.Need-returns
-unfolding hasOneOf some _or_
+unfolding hasOneOf share has some _or_
 returns c = simp add-zero
 
 pub has-one-of-spec : {M : Type 1} → statement M
@@ -51,4 +61,7 @@ has-one-of-spec =
     add-z
     mul-z
     shared-slice-read-z
+    add-w
+    mul-w
+    shared-slice-read-w
     returns)

@@ -10,10 +10,10 @@ use Rattle.distant_pairs.proofs.write_batch.Statement.{statement}
 use Rattle.distant_pairs.proofs.write_batch.Tie as tie
 
 abbrev Inv-loop : tie.InvT-loop
-Inv-loop vertices tests trials work₀ at next₀ k₀ k-end work next k = Each records (λ j. distantRow vertices tests j) trials work₀ work at next k-end k
+Inv-loop rows none tests trials work₀ at next₀ k₀ k-end work next k = Each records (λ j. distantRow none rows tests j) trials work₀ work at next k-end k
 
 abbrev μ-loop : tie.MeasureT-loop
-μ-loop vertices tests trials work₀ at next₀ k₀ k-end work next k = k-end - k
+μ-loop rows none tests trials work₀ at next₀ k₀ k-end work next k = k-end - k
 
 loop-holds : tie.Need-loop-holds Inv-loop μ-loop
 loop-holds c = each-start _ _ _ _
@@ -30,7 +30,7 @@ write-row-requires c κs =
     let l = c .before .before .before in
     let pre = l .before .before .before .before .before .pre in
     let h = c .before .before .loop-test .taken in
-    (pre .0, (pre .1 .0 .cell (l .loop .k) (each-in (l .loop .inv) h), each-room (l .loop .inv) h (pre .1 .1)))
+    (pre .0, (pre .1 .0, (pre .1 .1 .0 .cell (l .loop .k) (each-in (l .loop .inv) h), each-room (l .loop .inv) h (pre .1 .1 .1))))
 
 add-k : tie.Need-add-k Inv-loop μ-loop
 add-k c = omega arith

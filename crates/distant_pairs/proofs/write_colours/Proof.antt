@@ -13,11 +13,11 @@ use Rattle.distant_pairs.proofs.write_colours.Statement.{statement}
 use Rattle.distant_pairs.proofs.write_colours.Tie as tie
 
 abbrev Inv-loop : tie.InvT-loop
-Inv-loop vertices size tests trials work₀ at next₀ b₀ work next b =
-    Turns records (λ b. distantTrials vertices size (batch size b tests) trials) (batchCount size (length tests)) work₀ work at next b
+Inv-loop rows none size tests trials work₀ at next₀ b₀ work next b =
+    Turns records (λ b. distantTrials none rows size (batch size b tests) trials) (batchCount size (length tests)) work₀ work at next b
 
 abbrev μ-loop : tie.MeasureT-loop
-μ-loop vertices size tests trials work₀ at next₀ b₀ work next b = batchCount size (length tests) - b
+μ-loop rows none size tests trials work₀ at next₀ b₀ work next b = batchCount size (length tests) - b
 
 loop-holds : tie.Need-loop-holds Inv-loop μ-loop
 loop-holds c = turns-start _ _ _ _
@@ -38,7 +38,7 @@ write-trials-requires c κs =
     let l = c .before .before .before in
     let pre = l .before .before .before .before .before .pre in
     rw (c .before .batch-of .ensures)
-    (pre .0, (cells-batch _ _ (pre .1 .0), (pre .1 .1 .0, turns-room (l .loop .inv) (below (c .before .before)) (pre .1 .1 .1))))
+    (pre .0, (pre .1 .0, (cells-batch _ _ (pre .1 .1 .0), (pre .1 .1 .1 .0, turns-room (l .loop .inv) (below (c .before .before)) (pre .1 .1 .1 .1)))))
 
 add-b : tie.Need-add-b Inv-loop μ-loop
 add-b c =

@@ -14,14 +14,14 @@ has-one-of-requires c κs = search needs
 put-record-requires : tie.Need-put-record-requires
 put-record-requires c κs =
     let s = c .before .before in
-    let pre = s .before .before .before .before .pre in
-    rw (pair-one (pre .1 .0) (s .before .wide .ensures) (s .has-one-of .ensures) (c .before .if1 .left)) at (pre .1 .1)
+    let start = s .before .before .before .before in
+    rw (pair-one (start .args .rows .now) (start .args .a) (start .args .b) (start .args .c) (start .args .d) (start .args .trial) (s .before .wide .ensures) (s .has-one-of .ensures) (c .before .if1 .left)) at (start .pre .1)
 
 returns : tie.Need-returns
 returns c =
     let s = c .before in
-    let pre = s .before .before .before .before .pre in
-    rw (pair-none (pre .1 .0) (s .before .wide .ensures) (s .has-one-of .ensures) (c .if1 .taken)) (wrote-none _ _)
+    let start = s .before .before .before .before in
+    rw (pair-none (start .args .rows .now) (start .args .a) (start .args .b) (start .args .c) (start .args .d) (start .args .trial) (s .before .wide .ensures) (s .has-one-of .ensures) (c .if1 .taken)) (wrote-none _ _)
 
 same-length : tie.Need-same-length
 same-length c = search needs
@@ -30,8 +30,8 @@ returns-2 : tie.Need-returns-2
 returns-2 c =
     let e = c .before .before .before .before in
     let s = e .before in
-    let pre = s .before .before .before .before .pre in
-    rw (pair-one (pre .1 .0) (s .before .wide .ensures) (s .has-one-of .ensures) (e .if1 .left)) (c .before .before .put-record .ensures)
+    let start = s .before .before .before .before in
+    rw (pair-one (start .args .rows .now) (start .args .a) (start .args .b) (start .args .c) (start .args .d) (start .args .trial) (s .before .wide .ensures) (s .has-one-of .ensures) (e .if1 .left)) (c .before .before .put-record .ensures)
 
 pub write-pair-spec : {M : Type 1} → statement M
 write-pair-spec =

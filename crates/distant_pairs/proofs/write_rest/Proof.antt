@@ -1,40 +1,50 @@
 -- `distant_pairs::write_rest` meets its contract. The invariant of its loop: the records of the first d trial colours are written. Assumes nothing.
-use Prim.Native.Nat.{_-_}
+use Prim.Native.Nat.{_+_, _-_, _*_, _<_}
 use native.Mathlib.Omega.{arith}
 use lib.ListN.{length}
-use Rattle.grid.specs.Shape.{share}
+use Rattle.grid.specs.Rows.{share}
 use Rattle.lists.specs.Writes.{Turns, turns-start, turns-room, turns-turn, turns-done, wrote-length}
 use Rattle.cell_pairs.specs.RecordsFacts.{records}
 use Rattle.cells_by_key.specs.Groups.{part}
 use Rattle.cell_pairs.specs.WorkList.{distantColours}
-use Rattle.distant_pairs.specs.Distant.{distantRest}
+use Rattle.distant_pairs.specs.Distant.{half, distantRest}
+use Rattle.distant_pairs.specs.Facts.{kind-first, kind-group}
 use Rattle.distant_pairs.proofs.write_rest.Statement.{statement}
 use Rattle.distant_pairs.proofs.write_rest.Tie as tie
 
 abbrev Inv-loop : tie.InvT-loop
-Inv-loop vertices batch tests order ends work₀ at n next₀ d₀ work next d =
-    Turns records (λ d. distantColours (share vertices) batch tests (part order ends d)) (length ends) work₀ work at next d
+Inv-loop rows none batch tests order ends kind work₀ at n first next₀ d₀ work next d =
+    Turns records (λ d. distantColours (share none rows) batch tests (part order ends (kind * half ends + d))) (half ends) work₀ work at next d
 
 abbrev μ-loop : tie.MeasureT-loop
-μ-loop vertices batch tests order ends work₀ at n next₀ d₀ work next d = n - d
+μ-loop rows none batch tests order ends kind work₀ at n first next₀ d₀ work next d = n - d
+
+-- a turn's group is one of the groups
+group : (c : tie.In-loop Inv-loop μ-loop) → let start = c .before .before .before .before .before .before .before in start .args .kind * half (start .args .ends .now) + c .before .loop .d < length (start .args .ends .now)
+group c = let start = c .before .before .before .before .before .before .before in kind-group _ _ _ (start .pre .0 .2) (c .loop-test .taken)
+
+mul-first : tie.Need-mul-first Inv-loop μ-loop
+mul-first c = let start = c .before .before .before .before .before in omega (arith, kind-first (start .args .kind) (length (start .args .ends .now)) (start .pre .0 .2))
 
 loop-holds : tie.Need-loop-holds Inv-loop μ-loop
 loop-holds c = turns-start _ _ _ _
 
+add-part-of : tie.Need-add-part-of Inv-loop μ-loop
+add-part-of c = omega (arith, group c)
+
 part-of-requires : tie.Need-part-of-requires Inv-loop μ-loop
 part-of-requires c κs =
-    let cut = c .before .before .before .before .before .before .before .pre .1 .1 .0 in
-    let h = c .loop-test .taken in
+    let cut = c .before .before .before .before .before .before .before .pre .1 .1 .1 .0 in
+    let h = group c in
     (h, (cut .rise _ h, cut .within _ h))
 
 write-colours-requires : tie.Need-write-colours-requires Inv-loop μ-loop
 unfolding distantRest
 write-colours-requires c κs =
     let l = c .before .before .before in
-    let pre = l .before .before .before .before .before .before .pre in
-    let h = c .before .before .loop-test .taken in
-    let room = turns-room (l .loop .inv) h (pre .1 .1 .1) in
-    rw (c .before .part-of .ensures) (pre .0, (pre .1 .0, (pre .1 .1 .0 .cells _ h, room)))
+    let pre = c .before .before .before .before .before .before .before .before .before .pre in
+    let room = turns-room (l .loop .inv) (c .before .before .loop-test .taken) (pre .1 .1 .1 .1) in
+    rw (c .before .part-of .ensures) ((pre .0 .0, pre .0 .1), (pre .1 .0, (pre .1 .1 .0, (pre .1 .1 .1 .0 .cells _ (group (c .before .before)), room))))
 
 add-d : tie.Need-add-d Inv-loop μ-loop
 add-d c = omega arith
@@ -60,7 +70,9 @@ write-rest-spec =
     (tie.spec
     Inv-loop
     μ-loop
+    mul-first
     loop-holds
+    add-part-of
     part-of-requires
     write-colours-requires
     add-d

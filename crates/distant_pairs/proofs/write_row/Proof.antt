@@ -1,21 +1,21 @@
 -- `distant_pairs::write_row` meets its contract. The invariant of its loop: the records of the first k test cells are written. Assumes nothing.
 use Prim.Native.Nat.{_-_}
 use native.Mathlib.Omega.{arith}
-use Rattle.grid.specs.Shape.{share}
+use Rattle.grid.specs.Rows.{share}
 use Rattle.lists.specs.Writes.{Each, each-start, each-in, each-room, each-turn, each-done, wrote-length}
 use Rattle.cell_pairs.specs.RecordsFacts.{records}
 use Rattle.cell_pairs.specs.WorkList.{distantPair}
 use Rattle.distant_pairs.specs.Distant.{distantRow}
-use Rattle.distant_pairs.specs.Facts.{corners}
+use Rattle.distant_pairs.specs.Facts.{corners-read, pair-same}
 use borrow.Author.Needs.{needs}
 use Rattle.distant_pairs.proofs.write_row.Statement.{statement}
 use Rattle.distant_pairs.proofs.write_row.Tie as tie
 
 abbrev Inv-loop : tie.InvT-loop
-Inv-loop vertices tests trial work₀ at corner a b c next₀ k₀ k-end work next k = Each records (λ i. distantPair (share vertices) i trial) tests work₀ work at next k-end k
+Inv-loop rows none tests trial work₀ at corner a b c d next₀ k₀ k-end work next k = Each records (λ i. distantPair (share none rows) i trial) tests work₀ work at next k-end k
 
 abbrev μ-loop : tie.MeasureT-loop
-μ-loop vertices tests trial work₀ at corner a b c next₀ k₀ k-end work next k = k-end - k
+μ-loop rows none tests trial work₀ at corner a b c d next₀ k₀ k-end work next k = k-end - k
 
 wide-requires : tie.Need-wide-requires Inv-loop μ-loop
 wide-requires c κs = search needs
@@ -47,6 +47,18 @@ mul-c c = search needs
 shared-slice-read-c : tie.Need-shared-slice-read-c Inv-loop μ-loop
 shared-slice-read-c c = search needs
 
+add-fourth-or : tie.Need-add-fourth-or Inv-loop μ-loop
+add-fourth-or c = search needs
+
+mul-fourth-or : tie.Need-mul-fourth-or Inv-loop μ-loop
+mul-fourth-or c = search needs
+
+shared-slice-read-fourth-or : tie.Need-shared-slice-read-fourth-or Inv-loop μ-loop
+shared-slice-read-fourth-or c = search needs
+
+fourth-or-requires : tie.Need-fourth-or-requires Inv-loop μ-loop
+fourth-or-requires c κs = search needs
+
 loop-holds : tie.Need-loop-holds Inv-loop μ-loop
 loop-holds c = each-start _ _ _ _
 
@@ -60,10 +72,11 @@ write-pair-requires : tie.Need-write-pair-requires Inv-loop μ-loop
 unfolding distantRow
 write-pair-requires c κs =
     let l = c .before .before .before in
-    let w = l .before .before .before .before in
-    let pre = w .before .before .before .before .pre in
+    let start = c .before .before .before .before .before .before .before .before .before .before .before .before .before in
+    let pre = start .pre in
     let h = c .before .before .loop-test .taken in
-    (pre .0 .cell (l .loop .k) (each-in (l .loop .inv) h), (corners _ (w .wide .ensures), each-room (l .loop .inv) h (pre .1 .1)))
+    let at = corners-read (start .args .rows .now) (c .before .before .before .before .before .before .before .before .before .wide .ensures) (c .before .before .before .before .fourth-or .ensures) in
+    (pre .1 .0 .cell (l .loop .k) (each-in (l .loop .inv) h), rw (pair-same at (pre .0) (pre .1 .1 .0) _) (each-room (l .loop .inv) h (pre .1 .1 .1)))
 
 add-k : tie.Need-add-k Inv-loop μ-loop
 add-k c = omega arith
@@ -73,8 +86,11 @@ loop-less c = omega arith
 
 loop-again : tie.Need-loop-again Inv-loop μ-loop
 loop-again c =
-    let t = c .before .before .before .before .before in
-    each-turn (t .before .loop .inv) (t .loop-test .taken) (c .before .before .write-pair .ensures)
+    let l = c .before .before .before .before .before .before in
+    let start = c .before .before .before .before .before .before .before .before .before .before .before .before .before .before .before .before in
+    let pre = start .pre in
+    let at = corners-read (start .args .rows .now) (c .before .before .before .before .before .before .before .before .before .before .before .before .wide .ensures) (c .before .before .before .before .before .before .before .fourth-or .ensures) in
+    each-turn (l .loop .inv) (c .before .before .before .before .before .loop-test .taken) (rw (pair-same at (pre .0) (pre .1 .1 .0) _) at (c .before .before .write-pair .ensures))
 
 same-length : tie.Need-same-length Inv-loop μ-loop
 same-length c = wrote-length (c .before .loop .inv .wrote)
@@ -99,6 +115,10 @@ write-row-spec =
     add-c
     mul-c
     shared-slice-read-c
+    add-fourth-or
+    mul-fourth-or
+    shared-slice-read-fourth-or
+    fourth-or-requires
     loop-holds
     mul-write-pair
     shared-slice-read-write-pair

@@ -2,7 +2,7 @@
 use Prim.Native.Nat.{_-_, _<_}
 use native.Mathlib.Omega.{arith}
 use lib.ListN.{length}
-use Rattle.grid.specs.Shape.{share}
+use Rattle.grid.specs.Rows.{share}
 use Rattle.lists.specs.Range.{batch}
 use Rattle.lists.specs.Writes.{Turns, turns-start, turns-room, turns-turn, turns-done, wrote-length}
 use Rattle.cell_pairs.specs.RecordsFacts.{records}
@@ -14,11 +14,11 @@ use Rattle.distant_pairs.proofs.write_trials.Statement.{statement}
 use Rattle.distant_pairs.proofs.write_trials.Tie as tie
 
 abbrev Inv-loop : tie.InvT-loop
-Inv-loop vertices size tests trials work₀ at next₀ d₀ work next d =
-    Turns records (λ d. distantBatch (share vertices) tests (batch size d trials)) (batchCount size (length trials)) work₀ work at next d
+Inv-loop rows none size tests trials work₀ at next₀ d₀ work next d =
+    Turns records (λ d. distantBatch (share none rows) tests (batch size d trials)) (batchCount size (length trials)) work₀ work at next d
 
 abbrev μ-loop : tie.MeasureT-loop
-μ-loop vertices size tests trials work₀ at next₀ d₀ work next d = batchCount size (length trials) - d
+μ-loop rows none size tests trials work₀ at next₀ d₀ work next d = batchCount size (length trials) - d
 
 loop-holds : tie.Need-loop-holds Inv-loop μ-loop
 loop-holds c = turns-start _ _ _ _
@@ -39,7 +39,7 @@ write-batch-requires c κs =
     let l = c .before .before .before in
     let pre = l .before .before .before .before .before .pre in
     rw (c .before .batch-of .ensures)
-    (pre .1 .0, (cells-batch _ _ (pre .1 .1 .0), turns-room (l .loop .inv) (below (c .before .before)) (pre .1 .1 .1)))
+    (pre .1 .0, (pre .1 .1 .0, (cells-batch _ _ (pre .1 .1 .1 .0), turns-room (l .loop .inv) (below (c .before .before)) (pre .1 .1 .1 .1))))
 
 add-d : tie.Need-add-d Inv-loop μ-loop
 add-d c =

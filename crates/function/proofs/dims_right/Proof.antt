@@ -5,15 +5,15 @@ use borrow.Author.Needs.{needs}
 use Rattle.function.proofs.dims_right.Statement.{statement}
 use Rattle.function.proofs.dims_right.Tie as tie
 
-dim-requires : tie.Need-dim-requires
-dim-requires c κs = search needs
+right-requires : tie.Need-right-requires
+right-requires c κs = search needs
 
-dim-requires-2 : tie.Need-dim-requires-2
-dim-requires-2 c κs = search needs
+right-requires-2 : tie.Need-right-requires-2
+right-requires-2 c κs = search needs
 
 returns : tie.Need-returns
 unfolding dimsRight _and_
-returns c = simp (c .dim2 .ensures, c .before .dim .ensures)
+returns c = simp (c .before .right .ensures, c .right2 .ensures)
 
 pub dims-right-spec : {M : Type 1} → statement M
-dims-right-spec = tie.close (tie.spec dim-requires dim-requires-2 returns)
+dims-right-spec = tie.close (tie.spec right-requires right-requires-2 returns)

@@ -37,29 +37,28 @@ write-plan-requires : tie.Need-write-plan-requires
 write-plan-requires c κs = accepted _ _ (sym (c .before .before .before .before .before .before .before .before .plan-refusal .ensures) ∙ c .before .before .before .before .before .before .before .if1 .left)
 
 same-length-8 : tie.Need-same-length-8
-same-length-8 c = c .before .before .before .before .before .before .before .before .before .before .before .before .before .before .write-plan .kept .1 .1 .1 .1 .0
+same-length-8 c = search needs
 
 same-length-9 : tie.Need-same-length-9
-same-length-9 c = c .before .before .before .before .before .before .before .before .before .before .before .before .before .before .write-plan .kept .1 .1 .1 .1 .1 .0
+same-length-9 c = search needs
 
 same-length-10 : tie.Need-same-length-10
-same-length-10 c = c .before .before .before .before .before .before .before .before .before .before .before .before .before .before .write-plan .kept .1 .1 .1 .1 .1 .1 .0
+same-length-10 c = search needs
 
 same-length-11 : tie.Need-same-length-11
-same-length-11 c = c .before .before .before .before .before .before .before .before .before .before .before .before .before .before .write-plan .kept .1 .1 .1 .1 .1 .1 .1 .0
+same-length-11 c = search needs
 
 same-length-12 : tie.Need-same-length-12
-same-length-12 c = c .before .before .before .before .before .before .before .before .before .before .before .before .before .before .write-plan .kept .1 .1 .1 .1 .1 .1 .1 .1 .0
+same-length-12 c = search needs
 
 same-length-13 : tie.Need-same-length-13
-same-length-13 c = c .before .before .before .before .before .before .before .before .before .before .before .before .before .before .write-plan .kept .1 .1 .1 .1 .1 .1 .1 .1 .1 .0
+same-length-13 c = search needs
 
 same-length-14 : tie.Need-same-length-14
-same-length-14 c = c .before .before .before .before .before .before .before .before .before .before .before .before .before .before .write-plan .kept .1 .1 .1 .1 .1 .1 .1 .1 .1 .1 .0
+same-length-14 c = search needs
 
 returns-2 : tie.Need-returns-2
-returns-2 c =
-    plan-ready _ _ _ _ (sym (c .before .before .before .before .before .before .before .before .before .before .before .before .before .before .before .before .before .before .before .before .before .before .before .plan-refusal .ensures) ∙ c .before .before .before .before .before .before .before .before .before .before .before .before .before .before .before .before .before .before .before .before .before .before .if1 .left) (c .before .before .before .before .before .before .before .before .before .before .before .before .before .before .write-plan .ensures .0) (c .before .before .before .before .before .before .before .before .before .before .before .before .before .before .write-plan .ensures .1)
+returns-2 c = plan-ready _ _ _ _ (sym (c .before .before .before .before .before .before .before .before .before .before .before .before .before .before .before .before .before .before .before .before .before .before .before .plan-refusal .ensures) ∙ c .before .before .before .before .before .before .before .before .before .before .before .before .before .before .before .before .before .before .before .before .before .before .if1 .left) (c .before .before .before .before .before .before .before .before .before .before .before .before .before .before .write-plan .ensures .0) (c .before .before .before .before .before .before .before .before .before .before .before .before .before .before .write-plan .ensures .1)
 
 pub plan-spec : {M : Type 1} → statement M
 plan-spec =

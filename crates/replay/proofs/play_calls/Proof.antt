@@ -12,13 +12,13 @@ use Rattle.replay.proofs.play_calls.Statement.{statement}
 use Rattle.replay.proofs.play_calls.Tie as tie
 
 abbrev Inv-loop : tie.InvT-loop
-Inv-loop test-dofs trial-dofs work calls pool n matrix₀ rows₀ columns₀ values₀ answers₀ r₀ k₀ matrix rows columns values answers r k =
+Inv-loop kinds test-dofs trial-dofs work calls pool n matrix₀ rows₀ columns₀ values₀ answers₀ r₀ k₀ matrix rows columns values answers r k =
     (k ≤ n) × (length matrix ≡ length matrix₀) × (length rows ≡ length rows₀) × (length columns ≡ length columns₀) × (length values ≡ length values₀) × (length answers ≡ length answers₀)
-    × Going (planOf test-dofs trial-dofs work) (callsOf calls pool k) (standing (runOf r₀) matrix₀ (entryLists rows₀ columns₀ values₀)) answers₀
+    × Going (planOf kinds test-dofs trial-dofs work) (callsOf calls pool k) (standing (runOf r₀) matrix₀ (entryLists rows₀ columns₀ values₀)) answers₀
     (runOf r) matrix (entryLists rows columns values) answers
 
 abbrev μ-loop : tie.MeasureT-loop
-μ-loop test-dofs trial-dofs work calls pool n matrix₀ rows₀ columns₀ values₀ answers₀ r₀ k₀ matrix rows columns values answers r k = n - k
+μ-loop kinds test-dofs trial-dofs work calls pool n matrix₀ rows₀ columns₀ values₀ answers₀ r₀ k₀ matrix rows columns values answers r k = n - k
 
 loop-holds : tie.Need-loop-holds Inv-loop μ-loop
 loop-holds c = (search needs, refl, refl, refl, refl, refl, rw calls-none (going-none _ _ _ _ _))
@@ -48,12 +48,12 @@ play-call-requires : tie.Need-play-call-requires Inv-loop μ-loop
 play-call-requires c κs =
     let inv = c .before .before .before .before .before .before .before .loop .inv in
     let taken = c .before .before .before .before .before .before .loop-test .taken in
-    let start = c .before .before .before .before .before .before .before .before .before .before .before .before .before .before .before .before .before .before .pre in
-    (call-long (c .before .before .before .before .before .before .before .before .before .before .before .before .before .before .before .before .before .before .args .calls .now) (c .before .before .before .before .before .before .before .loop .k) (omega arith), omega arith)
+    let start = c .before .before .before .before .before .before .before .before .before .before .before .before .before .before .before .before .before .before .before .pre in
+    (call-long (c .before .before .before .before .before .before .before .before .before .before .before .before .before .before .before .before .before .before .before .args .calls .now) (c .before .before .before .before .before .before .before .loop .k) (omega arith), omega arith)
 
 add-k : tie.Need-add-k Inv-loop μ-loop
 add-k c =
-    let start = c .before .before .before .before .before .before .before .before .before .before .before .before .before .before .before .before .before .before .before .before .before .before .before .before .before .before .before .before .before in
+    let start = c .before .before .before .before .before .before .before .before .before .before .before .before .before .before .before .before .before .before .before .before .before .before .before .before .before .before .before .before .before .before in
     let taken = c .before .before .before .before .before .before .before .before .before .before .before .before .before .before .before .before .before .loop-test .taken in
     omega (arith, start .pre .0, taken)
 
@@ -65,11 +65,11 @@ loop-again c =
     let inv = c .before .before .before .before .before .before .before .before .before .before .before .before .before .before .before .before .before .before .loop .inv in
     let played = c .before .before .before .before .before .before .before .before .before .before .play-call in (
       omega (arith, c .before .before .before .before .before .before .before .before .before .before .before .before .before .before .before .before .before .loop-test .taken),
-      played .kept .1 .1 .1 .1 .1 .1 .0 ∙ inv .1,
-      played .kept .1 .1 .1 .1 .1 .1 .1 .0 ∙ inv .2,
-      played .kept .1 .1 .1 .1 .1 .1 .1 .1 .0 ∙ inv .3,
-      played .kept .1 .1 .1 .1 .1 .1 .1 .1 .1 .0 ∙ inv .4,
-      played .kept .1 .1 .1 .1 .1 .1 .1 .1 .1 .1 .0 ∙ inv .5,
+      played .kept .1 .1 .1 .1 .1 .1 .1 .0 ∙ inv .1,
+      played .kept .1 .1 .1 .1 .1 .1 .1 .1 .0 ∙ inv .2,
+      played .kept .1 .1 .1 .1 .1 .1 .1 .1 .1 .0 ∙ inv .3,
+      played .kept .1 .1 .1 .1 .1 .1 .1 .1 .1 .1 .0 ∙ inv .4,
+      played .kept .1 .1 .1 .1 .1 .1 .1 .1 .1 .1 .1 .0 ∙ inv .5,
       rw calls-more (going-more _ _ _ _ _ _ _ _ _ _ _ _ _ _ (length-calls _ _ _) (inv .6) (rw call-is at (played .ensures))),
     )
 
@@ -90,7 +90,7 @@ same-length-5 c = c .before .loop .inv .5
 
 returns : tie.Need-returns Inv-loop μ-loop
 returns c =
-    let end : c .before .loop .k ≡ c .before .before .before .before .before .before .before .before .before .before .before .before .args .n = omega arith in
+    let end : c .before .loop .k ≡ c .before .before .before .before .before .before .before .before .before .before .before .before .before .args .n = omega arith in
     rw end at (c .before .loop .inv .6)
 
 pub play-calls-spec : {M : Type 1} → statement M

@@ -41,7 +41,7 @@ same-length c = search needs
 
 returns : tie.Need-returns
 returns c =
-    let start = c .before .before .before .before .before .before .before .before .before .before .before .before .before .before .before .before .before .before .before .args in
+    let start = c .before .before .before .before .before .before .before .before .before .before .before .before .before .before .before .before .before .before .before .before .args in
     let same = distant-in (start .pool .now) (start .call .now) _ _ _ _ _ _ _
     (c .before .before .before .before .before .before .before .before .before .before .list-in .ensures)
     (c .before .before .before .before .before .before .before .before .before .list-in2 .ensures)

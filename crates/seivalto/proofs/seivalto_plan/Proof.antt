@@ -3,11 +3,11 @@ use borrow.Author.Needs.{needs}
 use Rattle.seivalto.proofs.seivalto_plan.Statement.{statement}
 use Rattle.seivalto.proofs.seivalto_plan.Tie as tie
 
-element-of-requires : tie.Need-element-of-requires
-element-of-requires c κs = search needs
+elements-of-requires : tie.Need-elements-of-requires
+elements-of-requires c κs = search needs
 
-element-of-requires-2 : tie.Need-element-of-requires-2
-element-of-requires-2 c κs = search needs
+elements-of-requires-2 : tie.Need-elements-of-requires-2
+elements-of-requires-2 c κs = search needs
 
 integrand-of-requires : tie.Need-integrand-of-requires
 integrand-of-requires c κs = search needs
@@ -19,40 +19,40 @@ c-planned-requires : tie.Need-c-planned-requires
 c-planned-requires c κs = search needs
 
 same-length : tie.Need-same-length
-same-length c = c .before .before .before .before .before .before .before .before .before .before .before .before .before .before .before .plan .kept .1 .1 .1 .1 .0
+same-length c = c .before .before .before .before .before .before .before .before .before .before .before .before .before .before .before .plan .kept .1 .1 .1 .1 .1 .0
 
 same-length-2 : tie.Need-same-length-2
-same-length-2 c = c .before .before .before .before .before .before .before .before .before .before .before .before .before .before .before .plan .kept .1 .1 .1 .1 .1 .0
+same-length-2 c = c .before .before .before .before .before .before .before .before .before .before .before .before .before .before .before .plan .kept .1 .1 .1 .1 .1 .1 .0
 
 same-length-3 : tie.Need-same-length-3
-same-length-3 c = c .before .before .before .before .before .before .before .before .before .before .before .before .before .before .before .plan .kept .1 .1 .1 .1 .1 .1 .0
+same-length-3 c = c .before .before .before .before .before .before .before .before .before .before .before .before .before .before .before .plan .kept .1 .1 .1 .1 .1 .1 .1 .0
 
 same-length-4 : tie.Need-same-length-4
-same-length-4 c = c .before .before .before .before .before .before .before .before .before .before .before .before .before .before .before .plan .kept .1 .1 .1 .1 .1 .1 .1 .0
+same-length-4 c = c .before .before .before .before .before .before .before .before .before .before .before .before .before .before .before .plan .kept .1 .1 .1 .1 .1 .1 .1 .1 .0
 
 same-length-5 : tie.Need-same-length-5
-same-length-5 c = c .before .before .before .before .before .before .before .before .before .before .before .before .before .before .before .plan .kept .1 .1 .1 .1 .1 .1 .1 .1 .0
+same-length-5 c = c .before .before .before .before .before .before .before .before .before .before .before .before .before .before .before .plan .kept .1 .1 .1 .1 .1 .1 .1 .1 .1 .0
 
 same-length-6 : tie.Need-same-length-6
-same-length-6 c = c .before .before .before .before .before .before .before .before .before .before .before .before .before .before .before .plan .kept .1 .1 .1 .1 .1 .1 .1 .1 .1 .0
+same-length-6 c = c .before .before .before .before .before .before .before .before .before .before .before .before .before .before .before .plan .kept .1 .1 .1 .1 .1 .1 .1 .1 .1 .1 .0
 
 same-length-7 : tie.Need-same-length-7
-same-length-7 c = c .before .before .before .before .before .before .before .before .before .before .before .before .before .before .before .plan .kept .1 .1 .1 .1 .1 .1 .1 .1 .1 .1 .0
+same-length-7 c = c .before .before .before .before .before .before .before .before .before .before .before .before .before .before .before .plan .kept .1 .1 .1 .1 .1 .1 .1 .1 .1 .1 .1 .0
 
 returns : tie.Need-returns
 returns c =
     let planned = c .before .before .before .before .before .before .before .before .before .before .before .before .before .before .before in
     let answer = planned .plan .ensures in
     let formed = planned .before .before .before .before .before .before .before .before in
-    rw (← formed .before .before .element-of .ensures, ← formed .before .element-of2 .ensures, ← formed .integrand-of .ensures, ← answer .0)
+    rw (← formed .before .before .elements-of .ensures, ← formed .before .elements-of2 .ensures, ← formed .integrand-of .ensures, ← answer .0)
     (c .c-planned .ensures, answer .1)
 
 pub seivalto-plan-spec : {M : Type 1} → statement M
 seivalto-plan-spec =
     tie.close
     (tie.spec
-    element-of-requires
-    element-of-requires-2
+    elements-of-requires
+    elements-of-requires-2
     integrand-of-requires
     plan-requires
     c-planned-requires

@@ -24,7 +24,7 @@ pub mod duffy {
     #[derive(Default)]
     struct Lent {
         rules: Vec<TestTrialNumericalQuadratureDefinition>,
-        asked: Vec<CellToCellConnectivity>,
+        asked: Vec<([usize; 2], CellToCellConnectivity)>,
     }
 
     thread_local! {
@@ -41,42 +41,40 @@ pub mod duffy {
         })
     }
 
-    /// What was asked for since rules were lent, in order.
-    pub fn asked() -> Vec<CellToCellConnectivity> {
+    /// What was asked for since rules were lent, in order: the vertices of test and trial cell, and which of them meet.
+    pub fn asked() -> Vec<([usize; 2], CellToCellConnectivity)> {
         LENT.with_borrow(|lent| lent.asked.clone())
     }
 
-    pub fn triangle_duffy(
-        connectivity: &CellToCellConnectivity,
-        _points: usize,
-    ) -> Result<TestTrialNumericalQuadratureDefinition, &'static str> {
+    type Rule = Result<TestTrialNumericalQuadratureDefinition, &'static str>;
+
+    fn next(corners: [usize; 2], connectivity: &CellToCellConnectivity) -> Rule {
         LENT.with_borrow_mut(|lent| {
             let next = lent.asked.len() % lent.rules.len();
-            lent.asked.push(connectivity.clone());
+            lent.asked.push((corners, connectivity.clone()));
             Ok(lent.rules[next].clone())
         })
     }
 
-    const NO_QUADRILATERALS: &str = "triangles alone";
-
-    pub fn quadrilateral_duffy(
-        _: &CellToCellConnectivity,
-        _: usize,
-    ) -> Result<TestTrialNumericalQuadratureDefinition, &'static str> {
-        Err(NO_QUADRILATERALS)
-    }
-
-    pub fn quadrilateral_triangle_duffy(
-        _: &CellToCellConnectivity,
-        _: usize,
-    ) -> Result<TestTrialNumericalQuadratureDefinition, &'static str> {
-        Err(NO_QUADRILATERALS)
+    pub fn triangle_duffy(connectivity: &CellToCellConnectivity, _points: usize) -> Rule {
+        next([3, 3], connectivity)
     }
 
     pub fn triangle_quadrilateral_duffy(
-        _: &CellToCellConnectivity,
-        _: usize,
-    ) -> Result<TestTrialNumericalQuadratureDefinition, &'static str> {
-        Err(NO_QUADRILATERALS)
+        connectivity: &CellToCellConnectivity,
+        _points: usize,
+    ) -> Rule {
+        next([3, 4], connectivity)
+    }
+
+    pub fn quadrilateral_triangle_duffy(
+        connectivity: &CellToCellConnectivity,
+        _points: usize,
+    ) -> Rule {
+        next([4, 3], connectivity)
+    }
+
+    pub fn quadrilateral_duffy(connectivity: &CellToCellConnectivity, _points: usize) -> Rule {
+        next([4, 4], connectivity)
     }
 }

@@ -1,7 +1,7 @@
-//! Stand-in for `ndelement`: triangles, elements with lent tables, lent rules of distant pairs.
+//! Stand-in for `ndelement`: triangles and quadrilaterals, elements with lent tables, lent rules of distant pairs.
 
 pub mod types {
-    /// Kinds of cells. A mesh here has triangles alone.
+    /// Kinds of entities. The cells of a mesh here are triangles and quadrilaterals.
     #[derive(Clone, Copy, PartialEq, Eq, Hash, Debug)]
     pub enum ReferenceCellType {
         Point,
@@ -14,20 +14,40 @@ pub mod types {
 pub mod reference_cell {
     use crate::types::ReferenceCellType;
 
-    fn only_triangles(cell: ReferenceCellType) {
-        assert_eq!(cell, ReferenceCellType::Triangle);
-    }
-
     /// How many vertices, edges and faces a cell has.
     pub fn entity_counts(cell: ReferenceCellType) -> Vec<usize> {
-        only_triangles(cell);
-        vec![3, 3, 1, 0]
+        let n = edges(cell).len();
+        vec![n, n, 1, 0]
     }
 
-    /// Local edges 0, 1, 2 join local vertices (1,2), (0,2), (0,1).
+    /// The local vertices that the local edges join.
     pub fn edges(cell: ReferenceCellType) -> Vec<Vec<usize>> {
-        only_triangles(cell);
-        vec![vec![1, 2], vec![0, 2], vec![0, 1]]
+        match cell {
+            ReferenceCellType::Triangle => vec![vec![1, 2], vec![0, 2], vec![0, 1]],
+            ReferenceCellType::Quadrilateral => {
+                vec![vec![0, 1], vec![0, 2], vec![1, 3], vec![2, 3]]
+            }
+            _ => unimplemented!("a cell of type {cell:?}"),
+        }
+    }
+}
+
+pub mod notes {
+    use std::cell::RefCell;
+    use std::collections::BTreeSet;
+
+    thread_local! {
+        static NOTES: RefCell<BTreeSet<String>> = const { RefCell::new(BTreeSet::new()) };
+    }
+
+    /// Notes that a stand-in was asked for what does not fit.
+    pub fn note(text: String) {
+        NOTES.with_borrow_mut(|notes| notes.insert(text));
+    }
+
+    /// What was noted since notes were last taken.
+    pub fn take() -> Vec<String> {
+        NOTES.take().into_iter().collect()
     }
 }
 
@@ -42,23 +62,26 @@ pub mod quadrature {
         pub points: Vec<f64>,
     }
 
+    type LentRule = (ReferenceCellType, NumericalQuadratureDefinition);
+
     thread_local! {
-        static LENT: RefCell<(usize, Vec<NumericalQuadratureDefinition>)> = const { RefCell::new((0, vec![])) };
+        static LENT: RefCell<(usize, Vec<LentRule>)> = const { RefCell::new((0, vec![])) };
     }
 
-    /// Lends the rules: the first is handed out at the first call, and so on, round and round.
-    pub fn lend(rules: Vec<NumericalQuadratureDefinition>) {
+    /// Lends the rules, each for a kind of cell: the first is handed out at the first call, and so on, round and round.
+    pub fn lend(rules: Vec<LentRule>) {
         LENT.with_borrow_mut(|lent| *lent = (0, rules))
     }
 
     pub fn simplex_rule(
-        _cell: ReferenceCellType,
+        cell: ReferenceCellType,
         _points: usize,
     ) -> Result<NumericalQuadratureDefinition, &'static str> {
         LENT.with_borrow_mut(|(next, rules)| {
-            let rule = rules[*next % rules.len()].clone();
+            let (lent_for, rule) = &rules[*next % rules.len()];
+            assert_eq!(*lent_for, cell);
             *next += 1;
-            Ok(rule)
+            Ok(rule.clone())
         })
     }
 }
@@ -91,21 +114,31 @@ pub mod traits {
 
 pub mod ciarlet {
     use crate::traits::FiniteElement;
+    use crate::types::ReferenceCellType;
+    use crate::{notes, reference_cell};
     use rlst::{DynamicArray, RawAccess, RawAccessMut, RlstScalar};
     use std::sync::Arc;
 
     /// A table for each rule: row i, point p, basis function f at i + rows·(p + points·f).
     pub type Tables<T> = Arc<Vec<Vec<T>>>;
 
-    /// An element of a triangle: a DOFs a vertex, b an edge, c inside, numbered in that order.
+    /// An element of a cell: a DOFs a vertex, b an edge, c inside, numbered in that order.
     pub struct CiarletElement<T: RlstScalar> {
         entity_dofs: [Vec<Vec<usize>>; 3],
         dim: usize,
         tables: Tables<T>,
+        fits: fn(usize) -> bool,
     }
 
     impl<T: RlstScalar> CiarletElement<T> {
-        pub fn new(dofs: [usize; 3], tables: Tables<T>) -> Self {
+        /// `fits` tells of the first number of points whether they are points for this element.
+        pub fn new(
+            cell: ReferenceCellType,
+            dofs: [usize; 3],
+            tables: Tables<T>,
+            fits: fn(usize) -> bool,
+        ) -> Self {
+            let counts = reference_cell::entity_counts(cell);
             let mut dim = 0;
             let mut of_entities = |entities: usize, each: usize| {
                 (0..entities)
@@ -115,15 +148,12 @@ pub mod ciarlet {
                     })
                     .collect::<Vec<_>>()
             };
-            let entity_dofs = [
-                of_entities(3, dofs[0]),
-                of_entities(3, dofs[1]),
-                of_entities(1, dofs[2]),
-            ];
+            let entity_dofs = [0, 1, 2].map(|dim| of_entities(counts[dim], dofs[dim]));
             Self {
                 entity_dofs,
                 dim,
                 tables,
+                fits,
             }
         }
     }
@@ -147,9 +177,11 @@ pub mod ciarlet {
             _nderivs: usize,
             data: &mut DynamicArray<T, 4>,
         ) {
-            let mark: f64 = num_of(points.data()[0]);
-            data.data_mut()
-                .copy_from_slice(&self.tables[mark as usize / 2]);
+            let mark = num_of(points.data()[0]) as usize;
+            if !(self.fits)(mark) {
+                notes::note("a trial element is tabulated at test points".to_string());
+            }
+            data.data_mut().copy_from_slice(&self.tables[mark / 2]);
         }
 
         fn tabulate_array_shape(&self, nderivs: usize, npoints: usize) -> [usize; 4] {

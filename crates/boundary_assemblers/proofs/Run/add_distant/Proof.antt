@@ -2,11 +2,13 @@
 use native.Mathlib.Omega.{arith}
 use mathlib.Core.Path.{sym, _∙_}
 use Rattle.lists.specs.Bool.{_and_}
+use Rattle.lent_numbers.specs.Lent.{distant}
 use Rattle.lent_numbers.specs.Entries.{distantEntry}
+use Rattle.boundary_assemblers.specs.Forms.{runOf}
 use Rattle.lent_numbers.specs.Sizes.{distant-fits}
-use Rattle.runs.specs.Runs.{isDistant, distantRefusal, addDistant, distantMatrix}
+use Rattle.runs.specs.Runs.{distantRefusal, addDistant, distantMatrix}
 use Rattle.boundary_assemblers.specs.RunFacts.{standing}
-use Rattle.boundary_assemblers.specs.AddFacts.{by-state, by-kind, by-numbers, by-none, sum-is}
+use Rattle.boundary_assemblers.specs.AddFacts.{distantBehind, check-fails, check-passes, by-state, by-rest, by-none, sum-is}
 use borrow.Author.Needs.{needs}
 use Rattle.boundary_assemblers.proofs.Run.add_distant.Statement.{statement}
 use Rattle.boundary_assemblers.proofs.Run.add_distant.Tie as tie
@@ -28,46 +30,39 @@ same-length c = search needs
 
 returns : tie.Need-returns
 unfolding addDistant distantMatrix distantRefusal _and_
-returns c = by-kind _ _ _ _ _ isDistant _ _ (sym (c .before .before .before .before .e .given .1) ∙ rw (c .before .before .before .before .before .before .before .matrix-right .ensures) at (c .before .before .before .before .before .before .state-checked .ensures)) (c .if1 .taken)
-
-dim-requires : tie.Need-dim-requires
-dim-requires c κs = search needs
-
-dim-requires-2 : tie.Need-dim-requires-2
-dim-requires-2 c κs = search needs
+returns c =
+    let start = c .before .before .before .before .before .before .before .before .before .before .before .before .before .before .before .before .before .before .before .before .before .before in
+    by-rest _ _ _ (distantBehind (runOf (start .args .self)) (distant (start .args .test-points) (start .args .trial-points) (start .args .test-weights .now) (start .args .trial-weights .now) (start .args .test-table .now) (start .args .trial-table .now) (start .args .kernel .now) (start .args .test-geometry .now) (start .args .trial-geometry .now))) _ _ (sym (c .before .before .before .before .before .e .given .1) ∙ rw (c .before .before .before .before .before .before .before .before .matrix-right .ensures) at (c .before .before .before .before .before .before .before .state-checked .ensures)) 23 (check-fails 23 _ _ (c .if1 .taken)) (λ z. omega arith)
 
 distant-refusal-requires : tie.Need-distant-refusal-requires
-distant-refusal-requires c κs =
-    let h = standing _ _ _ (sym (c .before .before .before .before .before .before .before .before .before .before .e .given .1) ∙ rw (c .before .before .before .before .before .before .before .before .before .before .before .before .before .matrix-right .ensures) at (c .before .before .before .before .before .before .before .before .before .before .before .before .state-checked .ensures)) in
-    rw (c .dim2 .ensures, c .before .dim .ensures) (h .ranges .test, h .ranges .trial)
+distant-refusal-requires c κs = let h = standing _ _ _ (sym (c .before .before .before .before .before .before .before .before .before .e .given .1) ∙ rw (c .before .before .before .before .before .before .before .before .before .before .before .before .matrix-right .ensures) at (c .before .before .before .before .before .before .before .before .before .before .before .state-checked .ensures)) in (h .test .few, h .trial .few)
 
 same-length-2 : tie.Need-same-length-2
 same-length-2 c = search needs
 
 returns-2 : tie.Need-returns-2
 unfolding addDistant distantMatrix distantRefusal _and_
-returns-2 c = by-numbers _ _ _ _ _ isDistant _ _ (sym (c .before .before .before .before .before .before .before .before .before .before .before .before .e .given .1) ∙ rw (c .before .before .before .before .before .before .before .before .before .before .before .before .before .before .before .matrix-right .ensures) at (c .before .before .before .before .before .before .before .before .before .before .before .before .before .before .state-checked .ensures)) (c .before .before .before .before .before .before .before .before .if1 .left) _ (rw (c .before .before .dim2 .ensures, c .before .before .before .dim .ensures) at (c .before .distant-refusal .ensures)) (c .if2 .taken)
+returns-2 c =
+    let start = c .before .before .before .before .before .before .before .before .before .before .before .before .before .before .before .before .before .before .before .before .before .before .before .before .before .before .before .before in
+    by-rest _ _ _ (distantBehind (runOf (start .args .self)) (distant (start .args .test-points) (start .args .trial-points) (start .args .test-weights .now) (start .args .trial-weights .now) (start .args .test-table .now) (start .args .trial-table .now) (start .args .kernel .now) (start .args .test-geometry .now) (start .args .trial-geometry .now))) _ _ (sym (c .before .before .before .before .before .before .before .before .before .before .before .e .given .1) ∙ rw (c .before .before .before .before .before .before .before .before .before .before .before .before .before .before .matrix-right .ensures) at (c .before .before .before .before .before .before .before .before .before .before .before .before .before .state-checked .ensures)) _ (check-passes 23 _ _ (c .before .before .before .before .before .before .if1 .left) (c .before .distant-refusal .ensures)) (c .if2 .taken)
 
 distant-matrix-requires : tie.Need-distant-matrix-requires
-distant-matrix-requires c κs =
-    let h = standing _ _ _ (sym (c .before .before .before .before .before .before .before .before .before .before .before .before .e .given .1) ∙ rw (c .before .before .before .before .before .before .before .before .before .before .before .before .before .before .before .matrix-right .ensures) at (c .before .before .before .before .before .before .before .before .before .before .before .before .before .before .state-checked .ensures)) in
-    rw (c .before .before .dim2 .ensures, c .before .before .before .dim .ensures)
-    (distant-fits _ _ _ _ (h .ranges .integrand) (h .ranges .test) (h .ranges .trial) (sym (rw (c .before .before .dim2 .ensures, c .before .before .before .dim .ensures) at (c .before .distant-refusal .ensures)) ∙ c .if2 .left))
+distant-matrix-requires c κs = let h = standing _ _ _ (sym (c .before .before .before .before .before .before .before .before .before .before .before .e .given .1) ∙ rw (c .before .before .before .before .before .before .before .before .before .before .before .before .before .before .matrix-right .ensures) at (c .before .before .before .before .before .before .before .before .before .before .before .before .before .state-checked .ensures)) in distant-fits _ _ _ _ (h .ranges .integrand) (h .test .few) (h .trial .few) (sym (c .before .distant-refusal .ensures) ∙ c .if2 .left)
 
 add-matrix-requires : tie.Need-add-matrix-requires
-add-matrix-requires c κs = standing _ _ _ (sym (c .before .before .before .before .before .before .before .before .before .before .before .before .before .before .e .given .1) ∙ rw (c .before .before .before .before .before .before .before .before .before .before .before .before .before .before .before .before .before .matrix-right .ensures) at (c .before .before .before .before .before .before .before .before .before .before .before .before .before .before .before .before .state-checked .ensures))
+add-matrix-requires c κs = standing _ _ _ (sym (c .before .before .before .before .before .before .before .before .before .before .before .before .before .e .given .1) ∙ rw (c .before .before .before .before .before .before .before .before .before .before .before .before .before .before .before .before .matrix-right .ensures) at (c .before .before .before .before .before .before .before .before .before .before .before .before .before .before .before .state-checked .ensures))
 
 advanced-requires : tie.Need-advanced-requires
-advanced-requires c κs =
-    let h = standing _ _ _ (sym (c .before .before .before .before .before .before .before .before .before .before .before .before .before .before .before .before .before .e .given .1) ∙ rw (c .before .before .before .before .before .before .before .before .before .before .before .before .before .before .before .before .before .before .before .before .matrix-right .ensures) at (c .before .before .before .before .before .before .before .before .before .before .before .before .before .before .before .before .before .before .before .state-checked .ensures)) in
-    omega (arith, h .below, h .ranges .all-pairs)
+advanced-requires c κs = let h = standing _ _ _ (sym (c .before .before .before .before .before .before .before .before .before .before .before .before .before .before .before .before .e .given .1) ∙ rw (c .before .before .before .before .before .before .before .before .before .before .before .before .before .before .before .before .before .before .before .matrix-right .ensures) at (c .before .before .before .before .before .before .before .before .before .before .before .before .before .before .before .before .before .before .state-checked .ensures)) in omega (arith, h .below, h .ranges .all-pairs)
 
 same-length-3 : tie.Need-same-length-3
 same-length-3 c = search needs
 
 returns-3 : tie.Need-returns-3
 unfolding addDistant distantMatrix distantRefusal
-returns-3 c = by-state _ _ _ _ _ isDistant _ _ (sym (c .before .v .given .1) ∙ rw (c .before .before .before .before .matrix-right .ensures) at (c .before .before .before .state-checked .ensures))
+returns-3 c =
+    let start = c .before .before .before .before .before .before .before .before .before .before .before .before .before .before .before .before .before .before in
+    by-state _ _ _ (distantBehind (runOf (start .args .self)) (distant (start .args .test-points) (start .args .trial-points) (start .args .test-weights .now) (start .args .trial-weights .now) (start .args .test-table .now) (start .args .trial-table .now) (start .args .kernel .now) (start .args .test-geometry .now) (start .args .trial-geometry .now))) _ _ (sym (c .before .v .given .1) ∙ rw (c .before .before .before .before .matrix-right .ensures) at (c .before .before .before .state-checked .ensures))
 
 same-length-4 : tie.Need-same-length-4
 same-length-4 c = search needs
@@ -75,10 +70,10 @@ same-length-4 c = search needs
 returns-4 : tie.Need-returns-4
 unfolding addDistant distantMatrix distantRefusal _and_
 returns-4 c =
-    let s = sym (c .before .before .before .before .before .before .before .before .before .before .before .before .before .before .before .before .before .before .e .given .1) ∙ rw (c .before .before .before .before .before .before .before .before .before .before .before .before .before .before .before .before .before .before .before .before .before .matrix-right .ensures) at (c .before .before .before .before .before .before .before .before .before .before .before .before .before .before .before .before .before .before .before .before .state-checked .ensures) in
-    let local = rw (c .before .before .before .before .before .before .before .before .dim2 .ensures, c .before .before .before .before .before .before .before .before .before .dim .ensures) at (c .before .before .before .before .before .distant-matrix .ensures) in
-    by-none _ _ _ _ _ isDistant _ _ s (c .before .before .before .before .before .before .before .before .before .before .before .before .before .before .if1 .left) _ (rw (c .before .before .before .before .before .before .before .before .dim2 .ensures, c .before .before .before .before .before .before .before .before .before .dim .ensures) at (c .before .before .before .before .before .before .before .distant-refusal .ensures)) (c .before .before .before .before .before .before .if2 .left) (c .advanced .ensures)
-    (sum-is _ _ _ s _ (c .before .before .before .before .before .distant-matrix .result .entries) (distantEntry _ _) (local .entries) (c .before .before .before .add-matrix .ensures))
+    let start = c .before .before .before .before .before .before .before .before .before .before .before .before .before .before .before .before .before .before .before .before .before .before .before .before .before .before .before .before .before .before .before .before .before .before in
+    let s = (sym (c .before .before .before .before .before .before .before .before .before .before .before .before .before .before .before .before .before .e .given .1) ∙ rw (c .before .before .before .before .before .before .before .before .before .before .before .before .before .before .before .before .before .before .before .before .matrix-right .ensures) at (c .before .before .before .before .before .before .before .before .before .before .before .before .before .before .before .before .before .before .before .state-checked .ensures)) in
+    by-none _ _ _ (distantBehind (runOf (start .args .self)) (distant (start .args .test-points) (start .args .trial-points) (start .args .test-weights .now) (start .args .trial-weights .now) (start .args .test-table .now) (start .args .trial-table .now) (start .args .kernel .now) (start .args .test-geometry .now) (start .args .trial-geometry .now))) _ _ s _ (check-passes 23 _ _ (c .before .before .before .before .before .before .before .before .before .before .before .before .if1 .left) (c .before .before .before .before .before .before .before .distant-refusal .ensures)) (c .before .before .before .before .before .before .if2 .left) (c .advanced .ensures)
+    (sum-is _ _ _ s _ (c .before .before .before .before .before .distant-matrix .result .entries) (distantEntry _ _) (c .before .before .before .before .before .distant-matrix .ensures .entries) (c .before .before .before .add-matrix .ensures))
 
 pub add-distant-spec : {M : Type 1} → statement M
 add-distant-spec =
@@ -90,8 +85,6 @@ add-distant-spec =
     enum-known-e
     same-length
     returns
-    dim-requires
-    dim-requires-2
     distant-refusal-requires
     same-length-2
     returns-2

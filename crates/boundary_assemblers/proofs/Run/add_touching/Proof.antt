@@ -2,11 +2,13 @@
 use native.Mathlib.Omega.{arith}
 use mathlib.Core.Path.{sym, _∙_}
 use Rattle.lists.specs.Bool.{_and_}
+use Rattle.lent_numbers.specs.Lent.{touching}
 use Rattle.lent_numbers.specs.Entries.{touchingEntry}
+use Rattle.boundary_assemblers.specs.Forms.{runOf}
 use Rattle.lent_numbers.specs.Sizes.{touching-fits}
-use Rattle.runs.specs.Runs.{isTouching, touchingRefusal, addTouching, touchingMatrix}
+use Rattle.runs.specs.Runs.{touchingRefusal, addTouching, touchingMatrix}
 use Rattle.boundary_assemblers.specs.RunFacts.{standing}
-use Rattle.boundary_assemblers.specs.AddFacts.{by-state, by-kind, by-numbers, by-none, sum-is}
+use Rattle.boundary_assemblers.specs.AddFacts.{touchingBehind, check-fails, check-passes, by-state, by-rest, by-none, sum-is}
 use borrow.Author.Needs.{needs}
 use Rattle.boundary_assemblers.proofs.Run.add_touching.Statement.{statement}
 use Rattle.boundary_assemblers.proofs.Run.add_touching.Tie as tie
@@ -28,46 +30,39 @@ same-length c = search needs
 
 returns : tie.Need-returns
 unfolding addTouching touchingMatrix touchingRefusal _and_
-returns c = by-kind _ _ _ _ _ isTouching _ _ (sym (c .before .before .before .before .e .given .1) ∙ rw (c .before .before .before .before .before .before .before .matrix-right .ensures) at (c .before .before .before .before .before .before .state-checked .ensures)) (c .if1 .taken)
-
-dim-requires : tie.Need-dim-requires
-dim-requires c κs = search needs
-
-dim-requires-2 : tie.Need-dim-requires-2
-dim-requires-2 c κs = search needs
+returns c =
+    let start = c .before .before .before .before .before .before .before .before .before .before .before .before .before .before .before .before .before .before .before .before .before in
+    by-rest _ _ _ (touchingBehind (runOf (start .args .self)) (touching (start .args .points) (start .args .weights .now) (start .args .test-table .now) (start .args .trial-table .now) (start .args .kernel .now) (start .args .test-geometry .now) (start .args .trial-geometry .now))) _ _ (sym (c .before .before .before .before .before .e .given .1) ∙ rw (c .before .before .before .before .before .before .before .before .matrix-right .ensures) at (c .before .before .before .before .before .before .before .state-checked .ensures)) 23 (check-fails 23 _ _ (c .if1 .taken)) (λ z. omega arith)
 
 touching-refusal-requires : tie.Need-touching-refusal-requires
-touching-refusal-requires c κs =
-    let h = standing _ _ _ (sym (c .before .before .before .before .before .before .before .before .before .before .e .given .1) ∙ rw (c .before .before .before .before .before .before .before .before .before .before .before .before .before .matrix-right .ensures) at (c .before .before .before .before .before .before .before .before .before .before .before .before .state-checked .ensures)) in
-    rw (c .dim2 .ensures, c .before .dim .ensures) (h .ranges .test, h .ranges .trial)
+touching-refusal-requires c κs = let h = standing _ _ _ (sym (c .before .before .before .before .before .before .before .before .before .e .given .1) ∙ rw (c .before .before .before .before .before .before .before .before .before .before .before .before .matrix-right .ensures) at (c .before .before .before .before .before .before .before .before .before .before .before .state-checked .ensures)) in (h .test .few, h .trial .few)
 
 same-length-2 : tie.Need-same-length-2
 same-length-2 c = search needs
 
 returns-2 : tie.Need-returns-2
 unfolding addTouching touchingMatrix touchingRefusal _and_
-returns-2 c = by-numbers _ _ _ _ _ isTouching _ _ (sym (c .before .before .before .before .before .before .before .before .before .before .before .before .e .given .1) ∙ rw (c .before .before .before .before .before .before .before .before .before .before .before .before .before .before .before .matrix-right .ensures) at (c .before .before .before .before .before .before .before .before .before .before .before .before .before .before .state-checked .ensures)) (c .before .before .before .before .before .before .before .before .if1 .left) _ (rw (c .before .before .dim2 .ensures, c .before .before .before .dim .ensures) at (c .before .touching-refusal .ensures)) (c .if2 .taken)
+returns-2 c =
+    let start = c .before .before .before .before .before .before .before .before .before .before .before .before .before .before .before .before .before .before .before .before .before .before .before .before .before .before .before in
+    by-rest _ _ _ (touchingBehind (runOf (start .args .self)) (touching (start .args .points) (start .args .weights .now) (start .args .test-table .now) (start .args .trial-table .now) (start .args .kernel .now) (start .args .test-geometry .now) (start .args .trial-geometry .now))) _ _ (sym (c .before .before .before .before .before .before .before .before .before .before .before .e .given .1) ∙ rw (c .before .before .before .before .before .before .before .before .before .before .before .before .before .before .matrix-right .ensures) at (c .before .before .before .before .before .before .before .before .before .before .before .before .before .state-checked .ensures)) _ (check-passes 23 _ _ (c .before .before .before .before .before .before .if1 .left) (c .before .touching-refusal .ensures)) (c .if2 .taken)
 
 touching-matrix-requires : tie.Need-touching-matrix-requires
-touching-matrix-requires c κs =
-    let h = standing _ _ _ (sym (c .before .before .before .before .before .before .before .before .before .before .before .before .e .given .1) ∙ rw (c .before .before .before .before .before .before .before .before .before .before .before .before .before .before .before .matrix-right .ensures) at (c .before .before .before .before .before .before .before .before .before .before .before .before .before .before .state-checked .ensures)) in
-    rw (c .before .before .dim2 .ensures, c .before .before .before .dim .ensures)
-    (touching-fits _ _ _ _ (h .ranges .integrand) (h .ranges .test) (h .ranges .trial) (sym (rw (c .before .before .dim2 .ensures, c .before .before .before .dim .ensures) at (c .before .touching-refusal .ensures)) ∙ c .if2 .left))
+touching-matrix-requires c κs = let h = standing _ _ _ (sym (c .before .before .before .before .before .before .before .before .before .before .before .e .given .1) ∙ rw (c .before .before .before .before .before .before .before .before .before .before .before .before .before .before .matrix-right .ensures) at (c .before .before .before .before .before .before .before .before .before .before .before .before .before .state-checked .ensures)) in touching-fits _ _ _ _ (h .ranges .integrand) (h .test .few) (h .trial .few) (sym (c .before .touching-refusal .ensures) ∙ c .if2 .left)
 
 add-matrix-requires : tie.Need-add-matrix-requires
-add-matrix-requires c κs = standing _ _ _ (sym (c .before .before .before .before .before .before .before .before .before .before .before .before .before .before .e .given .1) ∙ rw (c .before .before .before .before .before .before .before .before .before .before .before .before .before .before .before .before .before .matrix-right .ensures) at (c .before .before .before .before .before .before .before .before .before .before .before .before .before .before .before .before .state-checked .ensures))
+add-matrix-requires c κs = standing _ _ _ (sym (c .before .before .before .before .before .before .before .before .before .before .before .before .before .e .given .1) ∙ rw (c .before .before .before .before .before .before .before .before .before .before .before .before .before .before .before .before .matrix-right .ensures) at (c .before .before .before .before .before .before .before .before .before .before .before .before .before .before .before .state-checked .ensures))
 
 advanced-requires : tie.Need-advanced-requires
-advanced-requires c κs =
-    let h = standing _ _ _ (sym (c .before .before .before .before .before .before .before .before .before .before .before .before .before .before .before .before .before .e .given .1) ∙ rw (c .before .before .before .before .before .before .before .before .before .before .before .before .before .before .before .before .before .before .before .before .matrix-right .ensures) at (c .before .before .before .before .before .before .before .before .before .before .before .before .before .before .before .before .before .before .before .state-checked .ensures)) in
-    omega (arith, h .below, h .ranges .all-pairs)
+advanced-requires c κs = let h = standing _ _ _ (sym (c .before .before .before .before .before .before .before .before .before .before .before .before .before .before .before .before .e .given .1) ∙ rw (c .before .before .before .before .before .before .before .before .before .before .before .before .before .before .before .before .before .before .before .matrix-right .ensures) at (c .before .before .before .before .before .before .before .before .before .before .before .before .before .before .before .before .before .before .state-checked .ensures)) in omega (arith, h .below, h .ranges .all-pairs)
 
 same-length-3 : tie.Need-same-length-3
 same-length-3 c = search needs
 
 returns-3 : tie.Need-returns-3
 unfolding addTouching touchingMatrix touchingRefusal
-returns-3 c = by-state _ _ _ _ _ isTouching _ _ (sym (c .before .v .given .1) ∙ rw (c .before .before .before .before .matrix-right .ensures) at (c .before .before .before .state-checked .ensures))
+returns-3 c =
+    let start = c .before .before .before .before .before .before .before .before .before .before .before .before .before .before .before .before .before in
+    by-state _ _ _ (touchingBehind (runOf (start .args .self)) (touching (start .args .points) (start .args .weights .now) (start .args .test-table .now) (start .args .trial-table .now) (start .args .kernel .now) (start .args .test-geometry .now) (start .args .trial-geometry .now))) _ _ (sym (c .before .v .given .1) ∙ rw (c .before .before .before .before .matrix-right .ensures) at (c .before .before .before .state-checked .ensures))
 
 same-length-4 : tie.Need-same-length-4
 same-length-4 c = search needs
@@ -75,10 +70,10 @@ same-length-4 c = search needs
 returns-4 : tie.Need-returns-4
 unfolding addTouching touchingMatrix touchingRefusal _and_
 returns-4 c =
-    let s = sym (c .before .before .before .before .before .before .before .before .before .before .before .before .before .before .before .before .before .before .e .given .1) ∙ rw (c .before .before .before .before .before .before .before .before .before .before .before .before .before .before .before .before .before .before .before .before .before .matrix-right .ensures) at (c .before .before .before .before .before .before .before .before .before .before .before .before .before .before .before .before .before .before .before .before .state-checked .ensures) in
-    let local = rw (c .before .before .before .before .before .before .before .before .dim2 .ensures, c .before .before .before .before .before .before .before .before .before .dim .ensures) at (c .before .before .before .before .before .touching-matrix .ensures) in
-    by-none _ _ _ _ _ isTouching _ _ s (c .before .before .before .before .before .before .before .before .before .before .before .before .before .before .if1 .left) _ (rw (c .before .before .before .before .before .before .before .before .dim2 .ensures, c .before .before .before .before .before .before .before .before .before .dim .ensures) at (c .before .before .before .before .before .before .before .touching-refusal .ensures)) (c .before .before .before .before .before .before .if2 .left) (c .advanced .ensures)
-    (sum-is _ _ _ s _ (c .before .before .before .before .before .touching-matrix .result .entries) (touchingEntry _ _) (local .entries) (c .before .before .before .add-matrix .ensures))
+    let start = c .before .before .before .before .before .before .before .before .before .before .before .before .before .before .before .before .before .before .before .before .before .before .before .before .before .before .before .before .before .before .before .before .before in
+    let s = (sym (c .before .before .before .before .before .before .before .before .before .before .before .before .before .before .before .before .before .e .given .1) ∙ rw (c .before .before .before .before .before .before .before .before .before .before .before .before .before .before .before .before .before .before .before .before .matrix-right .ensures) at (c .before .before .before .before .before .before .before .before .before .before .before .before .before .before .before .before .before .before .before .state-checked .ensures)) in
+    by-none _ _ _ (touchingBehind (runOf (start .args .self)) (touching (start .args .points) (start .args .weights .now) (start .args .test-table .now) (start .args .trial-table .now) (start .args .kernel .now) (start .args .test-geometry .now) (start .args .trial-geometry .now))) _ _ s _ (check-passes 23 _ _ (c .before .before .before .before .before .before .before .before .before .before .before .before .if1 .left) (c .before .before .before .before .before .before .before .touching-refusal .ensures)) (c .before .before .before .before .before .before .if2 .left) (c .advanced .ensures)
+    (sum-is _ _ _ s _ (c .before .before .before .before .before .touching-matrix .result .entries) (touchingEntry _ _) (c .before .before .before .before .before .touching-matrix .ensures .entries) (c .before .before .before .add-matrix .ensures))
 
 pub add-touching-spec : {M : Type 1} → statement M
 add-touching-spec =
@@ -90,8 +85,6 @@ add-touching-spec =
     enum-known-e
     same-length
     returns
-    dim-requires
-    dim-requires-2
     touching-refusal-requires
     same-length-2
     returns-2

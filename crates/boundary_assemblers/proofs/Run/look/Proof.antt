@@ -21,7 +21,7 @@ returns c = let p = state-refused _ _ _ (sym (c .before .v .given .1) ∙ c .bef
 
 returns-2 : tie.Need-returns-2
 unfolding look lookRefusal
-returns-2 c = let p = state-passed _ _ _ (sym (c .before .e .given .1) ∙ c .before .before .before .state-checked .ensures) in rw (p .0, p .1)
+returns-2 c = let p = state-passed _ _ _ (sym (c .before .before .e .given .1) ∙ c .before .before .before .before .state-checked .ensures) in rw (p .0, p .1)
 
 pub look-spec : {M : Type 1} → statement M
 look-spec = tie.close (tie.spec state-checked-requires enum-known-v enum-known-e returns returns-2)

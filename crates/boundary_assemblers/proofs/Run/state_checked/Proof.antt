@@ -3,9 +3,10 @@ use native.Mathlib.Omega.{arith}
 use mathlib.Core.Path.{sym, ap, _∙_}
 use Prim.Native.Nat.{ℕ, _*_}
 use borrow.Author.Tests.{not-true, not-false}
-use Rattle.lists.specs.Bool.{_also_, end, turned, passed}
+use Rattle.lists.specs.Bool.{_also_, end, and-left, and-right, turned, passed}
 use Rattle.cell_pairs.specs.Records.{recordAt}
-use Rattle.boundary_assemblers.specs.RunFacts.{ranges, lengths, record-fits, run-fails, none-left, record-fails, all-pass}
+use Rattle.runs.specs.Runs.{kindsFit, planOf}
+use Rattle.boundary_assemblers.specs.RunFacts.{ranges, matched, known, both-inside, record-fits, pair-is, run-fails, plan-fails, none-left, record-unknown, dofs-fail, all-pass}
 use Rattle.boundary_assemblers.specs.Forms.{runOf}
 use borrow.Author.Needs.{needs}
 use Rattle.boundary_assemblers.proofs.Run.state_checked.Statement.{statement}
@@ -17,20 +18,20 @@ ranges-right-requires c κs = search needs
 returns : tie.Need-returns
 returns c = run-fails _ _ _ 0 (turned (c .before .ranges-right .ensures) (c .if1 .taken))
 
-places-right-requires : tie.Need-places-right-requires
-places-right-requires c κs = passed (c .before .ranges-right .ensures) (c .if1 .left)
+counts-right-requires : tie.Need-counts-right-requires
+counts-right-requires c κs = search needs
 
 returns-2 : tie.Need-returns-2
-returns-2 c = run-fails _ _ _ 1 (turned (c .before .places-right .ensures) (c .if2 .taken))
+returns-2 c = run-fails _ _ _ 1 (turned (c .before .counts-right .ensures) (c .if2 .taken))
 
 plan-right-requires : tie.Need-plan-right-requires
 plan-right-requires c κs = passed (c .before .before .before .ranges-right .ensures) (c .before .before .if1 .left)
 
 returns-3 : tie.Need-returns-3
-returns-3 c = run-fails _ _ _ 2 (turned (c .before .plan-right .ensures) (c .if3 .taken))
+returns-3 c = plan-fails _ _ _ (turned (c .before .plan-right .ensures) (c .if3 .taken))
 
 returns-4 : tie.Need-returns-4
-returns-4 c = run-fails _ _ _ 3 (not-true _ (c .if4 .taken))
+returns-4 c = run-fails _ _ _ 4 (not-true _ (c .if4 .taken))
 
 wide-requires : tie.Need-wide-requires
 wide-requires c κs = search needs
@@ -39,36 +40,60 @@ wide-requires-2 : tie.Need-wide-requires-2
 wide-requires-2 c κs = search needs
 
 mul-if5 : tie.Need-mul-if5
-mul-if5 c = rw (c .before .wide .ensures) (omega (arith, ranges (runOf (c .before .before .before .before .before .before .before .before .before .before .before .before .before .args .self)) (passed (c .before .before .before .before .before .before .before .before .before .ranges-right .ensures) (c .before .before .before .before .before .before .before .before .if1 .left))))
+mul-if5 c = rw (c .before .wide .ensures) (omega (arith, ranges (runOf (c .before .before .before .before .before .before .before .before .before .before .before .before .before .before .args .self)) (passed (c .before .before .before .before .before .before .before .before .before .ranges-right .ensures) (c .before .before .before .before .before .before .before .before .if1 .left)) .all-pairs))
 
 returns-5 : tie.Need-returns-5
 returns-5 c =
     none-left _ _ _
-    (passed (c .before .before .before .before .before .before .before .before .before .before .ranges-right .ensures) (c .before .before .before .before .before .before .before .before .before .if1 .left) also passed (c .before .before .before .before .before .before .before .before .places-right .ensures) (c .before .before .before .before .before .before .before .if2 .left) also passed (c .before .before .before .before .before .before .plan-right .ensures) (c .before .before .before .before .before .if3 .left) also not-false _ (c .before .before .before .before .if4 .left) also end)
+    (passed (c .before .before .before .before .before .before .before .before .before .before .ranges-right .ensures) (c .before .before .before .before .before .before .before .before .before .if1 .left) also passed (c .before .before .before .before .before .before .before .before .counts-right .ensures) (c .before .before .before .before .before .before .before .if2 .left) also and-left _ _ (passed (c .before .before .before .before .before .before .plan-right .ensures) (c .before .before .before .before .before .if3 .left)) also and-right _ _ (passed (c .before .before .before .before .before .before .plan-right .ensures) (c .before .before .before .before .before .if3 .left)) also not-false _ (c .before .before .before .before .if4 .left) also end)
     (sym (c .before .wide2 .ensures) ∙ c .if5 .taken ∙ ap (λ (n : ℕ). n * n) (c .before .before .wide .ensures))
 
 record-at-requires : tie.Need-record-at-requires
 record-at-requires c κs =
     rw (c .before .wide2 .ensures)
-    (record-fits (runOf (c .before .before .before .before .before .before .before .before .before .before .before .before .before .before .args .self)) _ (passed (c .before .before .before .before .before .before .before .before .places-right .ensures) (c .before .before .before .before .before .before .before .if2 .left)) (passed (c .before .before .before .before .before .before .plan-right .ensures) (c .before .before .before .before .before .if3 .left))
+    (record-fits (runOf (c .before .before .before .before .before .before .before .before .before .before .before .before .before .before .before .args .self)) _ (passed (c .before .before .before .before .before .before .before .before .counts-right .ensures) (c .before .before .before .before .before .before .before .if2 .left)) (and-right _ _ (passed (c .before .before .before .before .before .before .plan-right .ensures) (c .before .before .before .before .before .if3 .left)))
     (λ e. c .if5 .left (c .before .wide2 .ensures ∙ e ∙ sym (ap (λ (n : ℕ). n * n) (c .before .before .wide .ensures)))))
 
-record-right-requires : tie.Need-record-right-requires
-record-right-requires c κs = lengths (runOf (c .before .before .before .before .before .before .before .before .before .before .before .before .before .before .before .args .self)) _ (passed (c .before .before .before .before .before .before .before .plan-right .ensures) (c .before .before .before .before .before .before .if3 .left))
+record-known-requires : tie.Need-record-known-requires
+record-known-requires c κs = search needs
 
 returns-6 : tie.Need-returns-6
 returns-6 c =
-    record-fails _ _ _
-    (passed (c .before .before .before .before .before .before .before .before .before .before .before .before .before .ranges-right .ensures) (c .before .before .before .before .before .before .before .before .before .before .before .before .if1 .left) also passed (c .before .before .before .before .before .before .before .before .before .before .before .places-right .ensures) (c .before .before .before .before .before .before .before .before .before .before .if2 .left) also passed (c .before .before .before .before .before .before .before .before .before .plan-right .ensures) (c .before .before .before .before .before .before .before .before .if3 .left) also not-false _ (c .before .before .before .before .before .before .before .if4 .left) also end)
+    record-unknown _ _ _
+    (passed (c .before .before .before .before .before .before .before .before .before .before .before .before .before .ranges-right .ensures) (c .before .before .before .before .before .before .before .before .before .before .before .before .if1 .left) also passed (c .before .before .before .before .before .before .before .before .before .before .before .counts-right .ensures) (c .before .before .before .before .before .before .before .before .before .before .if2 .left) also and-left _ _ (passed (c .before .before .before .before .before .before .before .before .before .plan-right .ensures) (c .before .before .before .before .before .before .before .before .if3 .left)) also and-right _ _ (passed (c .before .before .before .before .before .before .before .before .before .plan-right .ensures) (c .before .before .before .before .before .before .before .before .if3 .left)) also not-false _ (c .before .before .before .before .before .before .before .if4 .left) also end)
     (λ e. c .before .before .before .if5 .left (c .before .before .before .before .wide2 .ensures ∙ e ∙ sym (ap (λ (n : ℕ). n * n) (c .before .before .before .before .before .wide .ensures))))
-    _ (c .before .before .record-at .ensures ∙ ap (recordAt _) (c .before .before .before .before .wide2 .ensures)) (turned (c .before .record-right .ensures) (c .if6 .taken))
+    _ (c .before .before .record-at .ensures ∙ ap (recordAt _) (c .before .before .before .before .wide2 .ensures)) (turned (c .before .record-known .ensures) (c .if6 .taken))
+
+cell-at-requires : tie.Need-cell-at-requires
+unfolding kindsFit
+cell-at-requires c κs =
+    let start = c .before .before .before .before .before .before .before .before .before .before .before .before .before .before .before .before .before .before in
+    (matched (start .args .self .numbers) _ (ranges (runOf (start .args .self)) (passed (c .before .before .before .before .before .before .before .before .before .before .before .before .before .ranges-right .ensures) (c .before .before .before .before .before .before .before .before .before .before .before .before .if1 .left)) .cells) (and-left _ _ (passed (c .before .before .before .before .before .before .before .before .before .plan-right .ensures) (c .before .before .before .before .before .before .before .before .if3 .left))), known (runOf (start .args .self)) _ (passed (c .before .record-known .ensures) (c .if6 .left)) .test)
+
+cell-at-requires-2 : tie.Need-cell-at-requires-2
+unfolding kindsFit
+cell-at-requires-2 c κs =
+    let start = c .before .before .before .before .before .before .before .before .before .before .before .before .before .before .before .before .before .before .before in
+    (matched (start .args .self .numbers) _ (ranges (runOf (start .args .self)) (passed (c .before .before .before .before .before .before .before .before .before .before .before .before .before .before .ranges-right .ensures) (c .before .before .before .before .before .before .before .before .before .before .before .before .before .if1 .left)) .cells) (and-left _ _ (passed (c .before .before .before .before .before .before .before .before .before .before .plan-right .ensures) (c .before .before .before .before .before .before .before .before .before .if3 .left))), known (runOf (start .args .self)) _ (passed (c .before .before .record-known .ensures) (c .before .if6 .left)) .trial)
+
+dofs-right-requires : tie.Need-dofs-right-requires
+dofs-right-requires c κs = rw (c .cell-at2 .ensures, c .before .cell-at .ensures) (both-inside (runOf (c .before .before .before .before .before .before .before .before .before .before .before .before .before .before .before .before .before .before .before .before .args .self)) _ (and-right _ _ (passed (c .before .before .before .before .before .before .before .before .before .before .before .plan-right .ensures) (c .before .before .before .before .before .before .before .before .before .before .if3 .left))) _ (passed (c .before .before .before .record-known .ensures) (c .before .before .if6 .left)))
 
 returns-7 : tie.Need-returns-7
 returns-7 c =
+    let start = c .before .before .before .before .before .before .before .before .before .before .before .before .before .before .before .before .before .before .before .before .before .before in
+    dofs-fail _ _ _
+    (passed (c .before .before .before .before .before .before .before .before .before .before .before .before .before .before .before .before .before .ranges-right .ensures) (c .before .before .before .before .before .before .before .before .before .before .before .before .before .before .before .before .if1 .left) also passed (c .before .before .before .before .before .before .before .before .before .before .before .before .before .before .before .counts-right .ensures) (c .before .before .before .before .before .before .before .before .before .before .before .before .before .before .if2 .left) also and-left _ _ (passed (c .before .before .before .before .before .before .before .before .before .before .before .before .before .plan-right .ensures) (c .before .before .before .before .before .before .before .before .before .before .before .before .if3 .left)) also and-right _ _ (passed (c .before .before .before .before .before .before .before .before .before .before .before .before .before .plan-right .ensures) (c .before .before .before .before .before .before .before .before .before .before .before .before .if3 .left)) also not-false _ (c .before .before .before .before .before .before .before .before .before .before .before .if4 .left) also end)
+    (λ e. c .before .before .before .before .before .before .before .if5 .left (c .before .before .before .before .before .before .before .before .wide2 .ensures ∙ e ∙ sym (ap (λ (n : ℕ). n * n) (c .before .before .before .before .before .before .before .before .before .wide .ensures))))
+    _ (pair-is (runOf (start .args .self)) (planOf (start .args .kinds .now) (start .args .test-dofs .now) (start .args .trial-dofs .now) (start .args .work .now)) (c .before .before .before .before .before .before .record-at .ensures ∙ ap (recordAt _) (c .before .before .before .before .before .before .before .before .wide2 .ensures)) (c .before .before .before .cell-at .ensures) (c .before .before .cell-at2 .ensures)) (turned (c .before .dofs-right .ensures) (c .if7 .taken))
+
+returns-8 : tie.Need-returns-8
+returns-8 c =
+    let start = c .before .before .before .before .before .before .before .before .before .before .before .before .before .before .before .before .before .before .before .before .before .before in
     all-pass _ _ _
-    (passed (c .before .before .before .before .before .before .before .before .before .before .before .before .before .ranges-right .ensures) (c .before .before .before .before .before .before .before .before .before .before .before .before .if1 .left) also passed (c .before .before .before .before .before .before .before .before .before .before .before .places-right .ensures) (c .before .before .before .before .before .before .before .before .before .before .if2 .left) also passed (c .before .before .before .before .before .before .before .before .before .plan-right .ensures) (c .before .before .before .before .before .before .before .before .if3 .left) also not-false _ (c .before .before .before .before .before .before .before .if4 .left) also end)
-    (λ e. c .before .before .before .if5 .left (c .before .before .before .before .wide2 .ensures ∙ e ∙ sym (ap (λ (n : ℕ). n * n) (c .before .before .before .before .before .wide .ensures))))
-    _ (c .before .before .record-at .ensures ∙ ap (recordAt _) (c .before .before .before .before .wide2 .ensures)) (passed (c .before .record-right .ensures) (c .if6 .left))
+    (passed (c .before .before .before .before .before .before .before .before .before .before .before .before .before .before .before .before .before .ranges-right .ensures) (c .before .before .before .before .before .before .before .before .before .before .before .before .before .before .before .before .if1 .left) also passed (c .before .before .before .before .before .before .before .before .before .before .before .before .before .before .before .counts-right .ensures) (c .before .before .before .before .before .before .before .before .before .before .before .before .before .before .if2 .left) also and-left _ _ (passed (c .before .before .before .before .before .before .before .before .before .before .before .before .before .plan-right .ensures) (c .before .before .before .before .before .before .before .before .before .before .before .before .if3 .left)) also and-right _ _ (passed (c .before .before .before .before .before .before .before .before .before .before .before .before .before .plan-right .ensures) (c .before .before .before .before .before .before .before .before .before .before .before .before .if3 .left)) also not-false _ (c .before .before .before .before .before .before .before .before .before .before .before .if4 .left) also end)
+    (λ e. c .before .before .before .before .before .before .before .if5 .left (c .before .before .before .before .before .before .before .before .wide2 .ensures ∙ e ∙ sym (ap (λ (n : ℕ). n * n) (c .before .before .before .before .before .before .before .before .before .wide .ensures))))
+    _ (pair-is (runOf (start .args .self)) (planOf (start .args .kinds .now) (start .args .test-dofs .now) (start .args .trial-dofs .now) (start .args .work .now)) (c .before .before .before .before .before .before .record-at .ensures ∙ ap (recordAt _) (c .before .before .before .before .before .before .before .before .wide2 .ensures)) (c .before .before .before .cell-at .ensures) (c .before .before .cell-at2 .ensures)) (passed (c .before .before .before .before .before .record-known .ensures) (c .before .before .before .before .if6 .left)) (passed (c .before .dofs-right .ensures) (c .if7 .left))
 
 pub state-checked-spec : {M : Type 1} → statement M
 state-checked-spec =
@@ -76,7 +101,7 @@ state-checked-spec =
     (tie.spec
     ranges-right-requires
     returns
-    places-right-requires
+    counts-right-requires
     returns-2
     plan-right-requires
     returns-3
@@ -86,6 +111,10 @@ state-checked-spec =
     mul-if5
     returns-5
     record-at-requires
-    record-right-requires
+    record-known-requires
     returns-6
-    returns-7)
+    cell-at-requires
+    cell-at-requires-2
+    dofs-right-requires
+    returns-7
+    returns-8)

@@ -1,12 +1,8 @@
 -- `boundary_assemblers::calls::cell_dofs` meets its contract: the part has `dim` elements. Assumes nothing.
 use native.Mathlib.Nat.{add-sub-cancel-left}
-use Rattle.runs.specs.Runs.{cellDofs}
 use borrow.Author.Needs.{needs}
 use Rattle.boundary_assemblers.proofs.calls.cell_dofs.Statement.{statement}
 use Rattle.boundary_assemblers.proofs.calls.cell_dofs.Tie as tie
-
-mul-start : tie.Need-mul-start
-mul-start c = search needs
 
 add-end : tie.Need-add-end
 add-end c = search needs
@@ -24,10 +20,15 @@ part-result-end : tie.Need-part-result-end
 part-result-end c = search needs
 
 returns : tie.Need-returns
-unfolding cellDofs
 returns c = rw add-sub-cancel-left
 
 pub cell-dofs-spec : {M : Type 1} → statement M
 cell-dofs-spec =
     tie.close
-    (tie.spec mul-start add-end mul-result sub-result part-result-start part-result-end returns)
+    (tie.spec
+    add-end
+    mul-result
+    sub-result
+    part-result-start
+    part-result-end
+    returns)

@@ -3,17 +3,17 @@ use Prim.Native.Nat.{_-_, _≤_}
 use native.Mathlib.Omega.{arith}
 use mathlib.Core.Path.{refl}
 use lib.ListN.{length}
-use Rattle.grid.specs.Shape.{share}
+use Rattle.grid.specs.Rows.{share}
 use Rattle.function.specs.ColoursFacts.{Filled, filled-none, filled-more, filled-all, front-le, smallest-le, Marks, marks-none}
 use borrow.Author.Needs.{needs}
 use Rattle.function.proofs.colouring.colour_grouped.Statement.{statement}
 use Rattle.function.proofs.colouring.colour_grouped.Tie as tie
 
 abbrev Inv-loop : tie.InvT-loop
-Inv-loop list order ends colours₀ marks₀ i₀ colours marks i = Filled (share list) colours₀ colours i × Marks i marks
+Inv-loop rows none order ends colours₀ marks₀ i₀ colours marks i = Filled (share none rows) colours₀ colours i × Marks i marks
 
 abbrev μ-loop : tie.MeasureT-loop
-μ-loop list order ends colours₀ marks₀ i₀ colours marks i = length colours₀ - i
+μ-loop rows none order ends colours₀ marks₀ i₀ colours marks i = length colours₀ - i
 
 loop-holds : tie.Need-loop-holds Inv-loop μ-loop
 loop-holds c = (filled-none _ _, marks-none)

@@ -1,7 +1,6 @@
--- `function::colouring::next_colour` meets its contract, by `marks-smallest`. Assumes nothing.
+-- `function::colouring::next_colour` meets its contract, by `marks-colour`. Assumes nothing.
 use native.Mathlib.Omega.{arith}
-use mathlib.Core.Path.{_∙_}
-use Rattle.function.specs.ColoursFacts.{marks-smallest, marks-next}
+use Rattle.function.specs.ColoursFacts.{marks-colour}
 use borrow.Author.Needs.{needs}
 use Rattle.function.proofs.colouring.next_colour.Statement.{statement}
 use Rattle.function.proofs.colouring.next_colour.Tie as tie
@@ -15,9 +14,7 @@ first-unmarked-requires c κs = search needs
 returns : tie.Need-returns
 returns c =
     let start = c .before .before .before .before .before .before .before .before in
-    let low = start .pre .1 .1 .1 in
-    let marked = c .before .before .mark-sharing .ensures in
-    (c .first-unmarked .ensures ∙ marks-smallest _ _ _ (omega (arith, start .pre .1 .1 .0 .below)) low marked, marks-next marked low)
+    marks-colour _ _ _ (omega (arith, start .pre .1 .1 .0 .below)) (start .pre .1 .1 .1) (c .before .before .mark-sharing .ensures) (c .first-unmarked .ensures)
 
 pub next-colour-spec : {M : Type 1} → statement M
 next-colour-spec = tie.close (tie.spec mark-sharing-requires first-unmarked-requires returns)

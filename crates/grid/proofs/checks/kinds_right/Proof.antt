@@ -5,15 +5,15 @@ use borrow.Author.Needs.{needs}
 use Rattle.grid.proofs.checks.kinds_right.Statement.{statement}
 use Rattle.grid.proofs.checks.kinds_right.Tie as tie
 
-cast-result : tie.Need-cast-result
-cast-result c = search needs
+wide-requires : tie.Need-wide-requires
+wide-requires c κs = search needs
 
 kinds-known-requires : tie.Need-kinds-known-requires
 kinds-known-requires c κs = search needs
 
 returns : tie.Need-returns
 unfolding kindsRight _and_
-returns c = rw (c .kinds-known .ensures)
+returns c = rw (c .kinds-known .ensures, c .before .wide .ensures)
 
 pub kinds-right-spec : {M : Type 1} → statement M
-kinds-right-spec = tie.close (tie.spec cast-result kinds-known-requires returns)
+kinds-right-spec = tie.close (tie.spec wide-requires kinds-known-requires returns)

@@ -19,7 +19,7 @@ kinds-right-requires : tie.Need-kinds-right-requires
 kinds-right-requires c κs = search needs
 
 places-right-requires : tie.Need-places-right-requires
-places-right-requires c κs = let s = c .before .before .before .before .before .before .before .before in omega (arith, within-high 1 mostCells (s .args .sizes .cells) (passed (c .before .before .before .is-within .ensures) (c .before .before .if1 .left)), kinds-long _ (passed (c .before .kinds-right .ensures) (c .if2 .left)))
+places-right-requires c κs = let s = c .before .before .before .before .before .before .before .before in omega (arith, within-high 1 mostCells (s .args .sizes .cells) (passed (c .before .before .before .is-within .ensures) (c .before .before .if1 .left)), kinds-long _ _ (passed (c .before .kinds-right .ensures) (c .if2 .left)))
 
 vertices-right-requires : tie.Need-vertices-right-requires
 unfolding cellsRight kindsRight
@@ -27,7 +27,7 @@ vertices-right-requires c κs = let s = c .before .before .before .before .befor
 
 edges-right-requires : tie.Need-edges-right-requires
 unfolding cellsRight kindsRight corners
-edges-right-requires c κs = let s = c .before .before .before .before .before .before .before .before .before .before .before .before in let m : Mesh = meshWith (s .args .sizes) (s .args .kinds .now) (s .args .cell-vertices .now) (s .args .cell-edges .now) in ((shaped m (passed (c .before .before .before .before .before .before .before .is-within .ensures) (c .before .before .before .before .before .before .if1 .left)) (passed (c .before .before .before .before .before .kinds-right .ensures) (c .before .before .before .before .if2 .left)) (passed (places-by _ (passed (c .before .before .before .before .before .kinds-right .ensures) (c .before .before .before .before .if2 .left)) (c .before .before .before .places-right .ensures)) (c .before .before .if3 .left)), vertices-below m (passed (vertices-by _ (passed (c .before .before .before .before .before .kinds-right .ensures) (c .before .before .before .before .if2 .left)) (c .before .vertices-right .ensures)) (c .if4 .left))), kinds-long m (passed (c .before .before .before .before .before .kinds-right .ensures) (c .before .before .before .before .if2 .left)))
+edges-right-requires c κs = let s = c .before .before .before .before .before .before .before .before .before .before .before .before in let m : Mesh = meshWith (s .args .sizes) (s .args .kinds .now) (s .args .cell-vertices .now) (s .args .cell-edges .now) in ((shaped m (passed (c .before .before .before .before .before .before .before .is-within .ensures) (c .before .before .before .before .before .before .if1 .left)) (passed (c .before .before .before .before .before .kinds-right .ensures) (c .before .before .before .before .if2 .left)) (passed (places-by _ (passed (c .before .before .before .before .before .kinds-right .ensures) (c .before .before .before .before .if2 .left)) (c .before .before .before .places-right .ensures)) (c .before .before .if3 .left)), vertices-below m (passed (vertices-by _ (passed (c .before .before .before .before .before .kinds-right .ensures) (c .before .before .before .before .if2 .left)) (c .before .vertices-right .ensures)) (c .if4 .left))), kinds-long (m .cells) (m .kinds) (passed (c .before .before .before .before .before .kinds-right .ensures) (c .before .before .before .before .if2 .left)))
 
 returns : tie.Need-returns
 unfolding cellsRight

@@ -8,10 +8,10 @@ use Rattle.oracle_runs.proofs.runs.entries_agree.Statement.{statement}
 use Rattle.oracle_runs.proofs.runs.entries_agree.Tie as tie
 
 abbrev Inv-loop : tie.InvT-loop
-Inv-loop fd case lengths places floats test-dofs trial-dofs work rows₀ columns₀ values₀ run₀ k₀ k-end rows columns values run k = (k ≤ k-end) × (k-end < 18446744073709551616) × (length rows ≡ length rows₀) × (length columns ≡ length columns₀) × (length values ≡ length values₀)
+Inv-loop fd case lengths places floats kinds test-dofs trial-dofs work rows₀ columns₀ values₀ run₀ k₀ k-end rows columns values run k = (k ≤ k-end) × (k-end < 18446744073709551616) × (length rows ≡ length rows₀) × (length columns ≡ length columns₀) × (length values ≡ length values₀)
 
 abbrev μ-loop : tie.MeasureT-loop
-μ-loop fd case lengths places floats test-dofs trial-dofs work rows₀ columns₀ values₀ run₀ k₀ k-end rows columns values run k = k-end - k
+μ-loop fd case lengths places floats kinds test-dofs trial-dofs work rows₀ columns₀ values₀ run₀ k₀ k-end rows columns values run k = k-end - k
 
 begin-entries-requires : tie.Need-begin-entries-requires Inv-loop μ-loop
 begin-entries-requires c κs = search needs

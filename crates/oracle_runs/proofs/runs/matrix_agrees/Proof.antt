@@ -7,10 +7,10 @@ use Rattle.oracle_runs.proofs.runs.matrix_agrees.Statement.{statement}
 use Rattle.oracle_runs.proofs.runs.matrix_agrees.Tie as tie
 
 abbrev Inv-loop : tie.InvT-loop
-Inv-loop fd case lengths places floats test-dofs trial-dofs work matrix₀ records run₀ k₀ matrix run k = (k ≤ records) × (length matrix ≡ length matrix₀)
+Inv-loop fd case lengths places floats kinds test-dofs trial-dofs work matrix₀ records run₀ k₀ matrix run k = (k ≤ records) × (length matrix ≡ length matrix₀)
 
 abbrev μ-loop : tie.MeasureT-loop
-μ-loop fd case lengths places floats test-dofs trial-dofs work matrix₀ records run₀ k₀ matrix run k = records - k
+μ-loop fd case lengths places floats kinds test-dofs trial-dofs work matrix₀ records run₀ k₀ matrix run k = records - k
 
 length-at-requires : tie.Need-length-at-requires Inv-loop μ-loop
 length-at-requires c κs = search needs

@@ -1,5 +1,5 @@
--- `planning::colours::write_colours` meets its contract: it lends two lists. Assumes nothing.
-use Prim.Native.Nat.{ℕ, _*_}
+-- `planning::colours::write_colours` meets its contract: it lends three lists. Assumes nothing.
+use Prim.Native.Nat.{ℕ, _+_, _*_}
 use lib.ListN.{length-replicate}
 use Rattle.grid.specs.Mesh.{mostCells, mostEdges}
 use borrow.Author.Needs.{needs}
@@ -12,10 +12,13 @@ slice-aggregate-colour-both c = search needs
 slice-aggregate-colour-both-2 : tie.Need-slice-aggregate-colour-both-2
 slice-aggregate-colour-both-2 c = search needs
 
+slice-aggregate-colour-both-3 : tie.Need-slice-aggregate-colour-both-3
+slice-aggregate-colour-both-3 c = search needs
+
 colour-both-requires : tie.Need-colour-both-requires
 colour-both-requires c κs =
-    let pre = c .before .before .before .before .before .before .before .before .pre in
-    (pre .0, (pre .1, record { places = length-replicate {A = ℕ} (3 * mostCells) 0; entities = length-replicate {A = ℕ} mostEdges 0 }))
+    let pre = c .before .before .before .before .before .before .before .before .before .before .pre in
+    (pre .0, (pre .1, record { numbers = length-replicate {A = ℕ} (4 * mostCells) 0; places = length-replicate {A = ℕ} (4 * mostCells) 0; entities = length-replicate {A = ℕ} (mostEdges + 1) 0 }))
 
 same-length : tie.Need-same-length
 same-length c = search needs
@@ -32,6 +35,7 @@ write-colours-spec =
     (tie.spec
     slice-aggregate-colour-both
     slice-aggregate-colour-both-2
+    slice-aggregate-colour-both-3
     colour-both-requires
     same-length
     same-length-2

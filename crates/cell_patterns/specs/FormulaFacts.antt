@@ -1,0 +1,142 @@
+-- Laws of the formula as the code finds its number: where a block begins, the local edge that joins two places, the place inside the block; and of the row of the
+-- table where it points. Assumes nothing.
+use Prim.Native.Nat.{ℕ, zero, suc, _+_, _*_, _<_, _≤_}
+use native.Mathlib.Nat.{add-zero, mul-le-mul-right}
+use native.Mathlib.Omega.{arith}
+use mathlib.Core.Path.{_≡_, refl, sym, _∙_}
+use mathlib.Core.Bool.{Bool, true, false, cond}
+use mathlib.Core.Logic.{⊎-elim}
+use mathlib.Core.List.{List}
+use lib.ListN.{getD}
+use lib.Dec.{eqb}
+use borrow.Author.Tests.{eq-eqb, ne-eqb, lt-ltb, le-ltb}
+use Rattle.lists.specs.Bool.{_and_}
+use Rattle.lists.specs.Bounded.{least, eq-or-ne, lt-or-le}
+use Rattle.lists.specs.Range.{range}
+use Rattle.grid.specs.Cells.{endsOf, sameTwo}
+use Rattle.cell_pairs.specs.Matches.{Match}
+use Rattle.cell_pairs.specs.Table.{pattern, tableCount, numberOf, blockStart, edgeJoining, inBlock, formulaNumber}
+use Rattle.cell_pairs.specs.TableFacts.{number-by-formula}
+use Rattle.cell_patterns.specs.TableNumbers.{listed, isRow}
+use Rattle.cell_patterns.specs.TableRows.{row-same}
+
+-- ---- the block's start, by cases
+
+module _ (n k : ℕ) where
+  pub start-both : n ≡ 3 → k ≡ 3 → 0 ≡ blockStart n k
+  start-both e f = rw (eq-eqb n 3 e, eq-eqb k 3 f)
+
+  pub start-test : n ≡ 3 → (k ≡ 3 → ⊥) → 28 ≡ blockStart n k
+  start-test e f = rw (eq-eqb n 3 e, ne-eqb k 3 f)
+
+  pub start-trial : (n ≡ 3 → ⊥) → k ≡ 3 → 64 ≡ blockStart n k
+  start-trial e f = rw (ne-eqb n 3 e, eq-eqb k 3 f)
+
+  pub start-neither : (n ≡ 3 → ⊥) → (k ≡ 3 → ⊥) → 100 ≡ blockStart n k
+  start-neither e f = rw (ne-eqb n 3 e, ne-eqb k 3 f)
+
+-- a kind that is not 3 is 4
+pub is-four : (n : ℕ) → 3 ≤ n → n ≤ 4 → (n ≡ 3 → ⊥) → n ≡ 4
+is-four n l m h = ⊎-elim (λ b. absurd (h (omega arith))) (λ b. omega arith) (lt-or-le n 4)
+
+pub sixteen : (a b : ℕ) → a ≤ 4 → b ≤ 4 → a * b ≤ 16
+sixteen a b h k = omega (arith, mul-le-mul-right b h)
+
+-- ---- the local edge that joins two places
+
+-- the first of three tests that holds, and of four
+first-three : (x y z : Bool) → cond x 0 (suc (cond y 0 (suc (cond z 0 (suc zero))))) ≡ cond x 0 (cond y 1 (cond z 2 3))
+first-three true y z = refl
+first-three false true z = refl
+first-three false false true = refl
+first-three false false false = refl
+
+first-four : (x y z w : Bool) → cond x 0 (suc (cond y 0 (suc (cond z 0 (suc (cond w 0 (suc zero))))))) ≡ cond x 0 (cond y 1 (cond z 2 (cond w 3 4)))
+first-four true y z w = refl
+first-four false true z w = refl
+first-four false false true w = refl
+first-four false false false true = refl
+first-four false false false false = refl
+
+pub joining-three : (n a b : ℕ) → n ≡ 3 → edgeJoining n a b ≡ cond (sameTwo 1 2 a b) 0 (cond (sameTwo 0 2 a b) 1 (cond (sameTwo 0 1 a b) 2 3))
+unfolding edgeJoining least
+joining-three n a b e = rw e (first-three (sameTwo 1 2 a b) (sameTwo 0 2 a b) (sameTwo 0 1 a b))
+
+pub joining-four : (n a b : ℕ) → n ≡ 4 → edgeJoining n a b ≡ cond (sameTwo 0 1 a b) 0 (cond (sameTwo 0 2 a b) 1 (cond (sameTwo 1 3 a b) 2 (cond (sameTwo 2 3 a b) 3 4)))
+unfolding edgeJoining least
+joining-four n a b e = rw e (first-four (sameTwo 0 1 a b) (sameTwo 0 2 a b) (sameTwo 1 3 a b) (sameTwo 2 3 a b))
+
+-- no edge: there is no second vertex
+pub second-past-three : (n e : ℕ) → n ≡ 3 → (e ≡ 0 → ⊥) → (e ≡ 1 → ⊥) → (e ≡ 2 → ⊥) → 0 ≡ endsOf n e .second
+second-past-three n zero k a b c = absurd (a refl)
+second-past-three n (suc zero) k a b c = absurd (b refl)
+second-past-three n (suc (suc zero)) k a b c = absurd (c refl)
+second-past-three n (suc (suc (suc e))) k a b c = rw (eq-eqb n 3 k)
+
+pub second-past-four : (n e : ℕ) → (n ≡ 3 → ⊥) → (e ≡ 0 → ⊥) → (e ≡ 1 → ⊥) → (e ≡ 2 → ⊥) → (e ≡ 3 → ⊥) → 0 ≡ endsOf n e .second
+second-past-four n zero k a b c d = absurd (a refl)
+second-past-four n (suc zero) k a b c d = absurd (b refl)
+second-past-four n (suc (suc zero)) k a b c d = absurd (c refl)
+second-past-four n (suc (suc (suc zero))) k a b c d = absurd (d refl)
+second-past-four n (suc (suc (suc (suc e)))) k a b c d = rw (ne-eqb n 3 k)
+
+-- ---- the place inside the block
+
+module _ (n k pairs : ℕ) (ts rs : List ℕ) where
+  pub in-none : pairs ≡ 0 → tableCount ≡ inBlock n k (listed pairs ts rs)
+  unfolding inBlock listed range
+  in-none e = rw e
+
+  pub in-one : pairs ≡ 1 → k * getD ts 0 0 + getD rs 0 0 ≡ inBlock n k (listed pairs ts rs)
+  unfolding inBlock listed range
+  in-one e = rw e
+
+  module _ (h : pairs ≡ 2) {e g second : ℕ} (x : e ≡ edgeJoining n (getD ts 0 0) (getD ts 1 0)) (y : g ≡ edgeJoining k (getD rs 0 0) (getD rs 1 0))
+      (z : second ≡ endsOf n e .second) where
+    in-two : n * k + 2 * (k * e + g) + cond (eqb (getD ts 0 0) second) 1 0 ≡ inBlock n k (listed pairs ts rs)
+    unfolding inBlock listed range
+    in-two = rw (h, z, x, y)
+
+    pub in-turned : getD ts 0 0 ≡ second → n * k + 2 * (k * e + g) + 1 ≡ inBlock n k (listed pairs ts rs)
+    in-turned t = rw (eq-eqb _ _ t) at in-two
+
+    pub in-straight : (getD ts 0 0 ≡ second → ⊥) → n * k + 2 * (k * e + g) ≡ inBlock n k (listed pairs ts rs)
+    in-straight t = sym (add-zero _) ∙ (rw (ne-eqb _ _ t) at in-two)
+
+  pub in-more : (pairs ≡ 0 → ⊥) → (pairs ≡ 1 → ⊥) → (pairs ≡ 2 → ⊥) → pairs ≤ 4 → 3 * (n * k) ≡ inBlock n k (listed pairs ts rs)
+  unfolding inBlock listed range
+  in-more a b c l = ⊎-elim (λ e. rw e) (λ d. let e : pairs ≡ 4 = four pairs a b c d l in rw e) (eq-or-ne pairs 3)
+    where
+      four : (p : ℕ) → (p ≡ 0 → ⊥) → (p ≡ 1 → ⊥) → (p ≡ 2 → ⊥) → (p ≡ 3 → ⊥) → p ≤ 4 → p ≡ 4
+      four zero a b c d l = absurd (a refl)
+      four (suc zero) a b c d l = absurd (b refl)
+      four (suc (suc zero)) a b c d l = absurd (c refl)
+      four (suc (suc (suc zero))) a b c d l = absurd (d refl)
+      four (suc (suc (suc (suc p)))) a b c d l = omega arith
+
+-- ---- the number
+
+pub formula-at : (n k : ℕ) (ms : List Match) {a b : ℕ} → a ≡ blockStart n k → b ≡ inBlock n k ms → a + b ≡ formulaNumber (pattern n k ms)
+unfolding formulaNumber
+formula-at n k ms e f = rw (e, f)
+
+module _ (n k pairs : ℕ) (ts rs : List ℕ) {r : ℕ} (e : r ≡ formulaNumber (pattern n k (listed pairs ts rs))) where
+  -- the row where the formula points is the pattern's
+  pub number-here : {b : Bool} → r < tableCount → b ≡ isRow r n k pairs ts rs → b ≡ true → r ≡ numberOf (pattern n k (listed pairs ts rs))
+  unfolding _and_
+  number-here l f t =
+      sym
+      (number-by-formula _
+      ∙ rw (← e, lt-ltb r tableCount l, sym (row-same r n k pairs ts rs l) ∙ sym f ∙ t))
+
+  -- it is another's, or there is no such row
+  pub number-other : {b : Bool} → r < tableCount → b ≡ isRow r n k pairs ts rs → b ≡ false → tableCount ≡ numberOf (pattern n k (listed pairs ts rs))
+  unfolding _and_
+  number-other l f t =
+      sym
+      (number-by-formula _
+      ∙ rw (← e, lt-ltb r tableCount l, sym (row-same r n k pairs ts rs l) ∙ sym f ∙ t))
+
+  pub number-past : tableCount ≤ r → tableCount ≡ numberOf (pattern n k (listed pairs ts rs))
+  unfolding _and_
+  number-past l = sym (number-by-formula _ ∙ rw (← e, le-ltb r tableCount l))

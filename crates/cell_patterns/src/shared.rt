@@ -1,0 +1,238 @@
+// Cells of any kinds: the vertices that two cells share, and the pattern of these. The formula says where in the table it has to stand, and the row that stands
+// there is read.
+use cell_pairs::NO_PATTERN;
+use pattern_table::table_row;
+ghost use mathlib.Core.Path.{_≡_};
+ghost use mathlib.Core.Bool.{true};
+ghost use mathlib.Core.List.{[], _∷_, _++_};
+ghost use Prim.Native.Nat.{_+_, _≤_, _<_};
+ghost use lib.ListN.{length};
+ghost use lib.Dec.{ltb};
+ghost use Rattle.lists.specs.Range.{when};
+ghost use Rattle.grid.specs.Cells.{distinct, endsOf, sameTwo};
+ghost use Rattle.cell_pairs.specs.Matches.{_↔_, matches};
+ghost use Rattle.cell_pairs.specs.Patterns.{cellsPattern};
+ghost use Rattle.cell_pairs.specs.Table.{pattern, numberOf, blockStart, edgeJoining, inBlock};
+ghost use Rattle.cell_patterns.specs.Flat.{cellsRight};
+ghost use Rattle.cell_patterns.specs.TableNumbers.{placeIn, listed, samePlaces, isRow};
+ghost use Rattle.cell_patterns.specs.SharedFacts.{Small};
+
+// The shared vertices of two cells: how many, and the places of each in the test cell and in the trial cell.
+struct Shared {
+    pairs: u32,
+    tests: [u32; 4],
+    trials: [u32; 4],
+}
+
+// The place of the vertex x in a cell; the number of its vertices where it has none.
+fn place_in(cell: &[u32], x: u32) -> usize
+    ensures { λ r. ⌜ r ≡ placeIn (now (cell .entry)) x ⌝ }
+{
+    for p in 0..cell.len() {
+        if cell[p] == x {
+            return p;
+        }
+    }
+    cell.len()
+}
+
+// The shared vertices with one more, at test place p and trial place q, if p is a place of the n of the test cell.
+fn with_match(s: Shared, p: u32, n: u32, q: u32) -> Shared
+    requires { ⌜ (s .pairs < 4) × (n ≤ 4) × (q < 4) ⌝ }
+    requires { ⌜ Small (s .tests) (s .trials) ⌝ }
+    ensures { λ r. ⌜ (listed (r .pairs) (r .tests) (r .trials) ≡ listed (s .pairs) (s .tests) (s .trials) ++ when (ltb p n) (p ↔ q ∷ [])) × (r .pairs ≤ s .pairs + 1) × Small (r .tests) (r .trials) ⌝ }
+{
+    let at = s.pairs as usize;
+    if n <= p {
+        return s;
+    }
+    let mut t = s;
+    t.tests[at] = p;
+    t.trials[at] = q;
+    t.pairs = s.pairs + 1;
+    t
+}
+
+// The shared vertices of two cells, trial places rising. The test cell has no vertex twice.
+fn matches_of(test: &[u32], trial: &[u32]) -> Shared
+    requires { ⌜ (length (now test) ≤ 4) × (length (now trial) ≤ 4) × (distinct (now test) ≡ true) ⌝ }
+    ensures { λ r. ⌜ (listed (r .pairs) (r .tests) (r .trials) ≡ matches (now (test .entry)) (now (trial .entry))) × (r .pairs ≤ 4) × Small (r .tests) (r .trials) ⌝ }
+{
+    let n = test.len() as u32;
+    let mut s = Shared {
+        pairs: 0,
+        tests: [0; 4],
+        trials: [0; 4],
+    };
+    for q in 0..trial.len() {
+        let p = place_in(test, trial[q]) as u32;
+        s = with_match(s, p, n, q as u32);
+    }
+    s
+}
+
+// Whether the places of a row of the table are those of the shared vertices.
+fn same_places(row: [u32; 11], s: Shared) -> bool
+    requires { ⌜ s .pairs ≤ 4 ⌝ }
+    ensures { λ b. ⌜ b ≡ samePlaces row (s .pairs) (s .tests) (s .trials) ⌝ }
+{
+    let n = s.pairs as usize;
+    for i in 0..n {
+        let agree = (row[3 + 2 * i] == s.tests[i]) & (row[4 + 2 * i] == s.trials[i]);
+        if !agree {
+            return false;
+        }
+    }
+    true
+}
+
+// Whether row r is of the test kind n, the trial kind k and the shared vertices. The table is read once.
+fn is_row(r: usize, n: u32, k: u32, s: Shared) -> bool
+    requires { ⌜ (r < 149) × (s .pairs ≤ 4) ⌝ }
+    ensures { λ b. ⌜ b ≡ isRow r n k (s .pairs) (s .tests) (s .trials) ⌝ }
+{
+    let row = table_row(r);
+    let kinds = (row[0] == n) & (row[1] == k);
+    let pairs = row[2] == s.pairs;
+    kinds & (pairs & same_places(row, s))
+}
+
+// Where the block of test kind n and trial kind k begins.
+fn block_start(n: u32, k: u32) -> u32
+    ensures { λ r. ⌜ (r ≡ blockStart n k) × (r ≤ 100) ⌝ }
+{
+    if n == 3 {
+        if k == 3 {
+            return 0;
+        }
+        return 28;
+    }
+    if k == 3 {
+        return 64;
+    }
+    100
+}
+
+// Whether a local edge of the vertices p and q joins a and b.
+fn joins(p: u32, q: u32, a: u32, b: u32) -> bool
+    ensures { λ r. ⌜ r ≡ sameTwo p q a b ⌝ }
+{
+    ((p == a) & (q == b)) | ((p == b) & (q == a))
+}
+
+// The local edge of a cell of kind n, 3 or 4, that joins local vertices a and b; n where none does.
+fn edge_joining(n: u32, a: u32, b: u32) -> u32
+    requires { ⌜ (3 ≤ n) × (n ≤ 4) ⌝ }
+    ensures { λ r. ⌜ (r ≡ edgeJoining n a b) × (r ≤ 4) ⌝ }
+{
+    if n == 3 {
+        if joins(1, 2, a, b) {
+            return 0;
+        }
+        if joins(0, 2, a, b) {
+            return 1;
+        }
+        if joins(0, 1, a, b) {
+            return 2;
+        }
+        return 3;
+    }
+    if joins(0, 1, a, b) {
+        return 0;
+    }
+    if joins(0, 2, a, b) {
+        return 1;
+    }
+    if joins(1, 3, a, b) {
+        return 2;
+    }
+    if joins(2, 3, a, b) {
+        return 3;
+    }
+    4
+}
+
+// The second local vertex of local edge e of a cell of kind n; 0 where there is no such edge.
+fn second_of(n: u32, e: u32) -> u32
+    ensures { λ r. ⌜ r ≡ endsOf n e .second ⌝ }
+{
+    if n == 3 {
+        match e {
+            0 => 2,
+            1 => 2,
+            2 => 1,
+            _ => 0,
+        }
+    } else {
+        match e {
+            0 => 1,
+            1 => 2,
+            2 => 3,
+            3 => 3,
+            _ => 0,
+        }
+    }
+}
+
+// The place inside the block of test kind n and trial kind k that the formula gives the shared vertices.
+fn in_block(n: u32, k: u32, s: Shared) -> u32
+    requires { ⌜ (3 ≤ n) × (n ≤ 4) × (3 ≤ k) × (k ≤ 4) × (s .pairs ≤ 4) ⌝ }
+    requires { ⌜ Small (s .tests) (s .trials) ⌝ }
+    ensures { λ r. ⌜ (r ≡ inBlock n k (listed (s .pairs) (s .tests) (s .trials))) × (r ≤ 149) ⌝ }
+{
+    if s.pairs == 0 {
+        return NO_PATTERN;
+    }
+    if s.pairs == 1 {
+        return k * s.tests[0] + s.trials[0];
+    }
+    if s.pairs == 2 {
+        let e = edge_joining(n, s.tests[0], s.tests[1]);
+        let g = edge_joining(k, s.trials[0], s.trials[1]);
+        let place = n * k + 2 * (k * e + g);
+        if s.tests[0] == second_of(n, e) {
+            return place + 1;
+        }
+        return place;
+    }
+    3 * (n * k)
+}
+
+// The number of the pattern of two kinds and their shared vertices: the formula's, if they stand in the table there, else NO_PATTERN.
+fn number_of(n: u32, k: u32, s: Shared) -> u32
+    requires { ⌜ (3 ≤ n) × (n ≤ 4) × (3 ≤ k) × (k ≤ 4) × (s .pairs ≤ 4) ⌝ }
+    requires { ⌜ Small (s .tests) (s .trials) ⌝ }
+    ensures { λ r. ⌜ r ≡ numberOf (pattern n k (listed (s .pairs) (s .tests) (s .trials))) ⌝ }
+{
+    let r = block_start(n, k) + in_block(n, k, s);
+    if r < NO_PATTERN {
+        if is_row(r as usize, n, k, s) {
+            return r;
+        }
+    }
+    NO_PATTERN
+}
+
+// The pattern of a test cell and a trial cell, NO_PATTERN where it is none of the table. The test cell has no vertex twice.
+pub(crate) fn cells_pattern(test: &[u32], trial: &[u32]) -> u32
+    requires { ⌜ (3 ≤ length (now test)) × (length (now test) ≤ 4) × (3 ≤ length (now trial)) × (length (now trial) ≤ 4) × (distinct (now test) ≡ true) ⌝ }
+    ensures { λ r. ⌜ r ≡ cellsPattern (now (test .entry)) (now (trial .entry)) ⌝ }
+{
+    let n = test.len() as u32;
+    let k = trial.len() as u32;
+    number_of(n, k, matches_of(test, trial))
+}
+
+// Check 7 of a test cell and a trial cell: they share no vertex, or have a pattern.
+pub(crate) fn cells_right(test: &[u32], trial: &[u32]) -> bool
+    requires { ⌜ (3 ≤ length (now test)) × (length (now test) ≤ 4) × (3 ≤ length (now trial)) × (length (now trial) ≤ 4) × (distinct (now test) ≡ true) ⌝ }
+    ensures { λ r. ⌜ r ≡ cellsRight (now (test .entry)) (now (trial .entry)) ⌝ }
+{
+    let n = test.len() as u32;
+    let k = trial.len() as u32;
+    let s = matches_of(test, trial);
+    if s.pairs == 0 {
+        return true;
+    }
+    number_of(n, k, s) < NO_PATTERN
+}

@@ -1,0 +1,67 @@
+-- What check 4 says of one side: of the dim of a kind that is present, and of both elements where both kinds are. Assumes nothing.
+use Prim.Native.Nat.{ℕ, _<_}
+use native.Mathlib.Omega.{arith}
+use mathlib.Core.Bool.{true}
+use mathlib.Core.Path.{_≡_, sym, ap, _∙_}
+use mathlib.Core.Logic.{_⊎_, inl, inr, ⊎-elim}
+use mathlib.Core.List.{List}
+use lib.ListN.{getD}
+use lib.Dec.{eqb}
+use borrow.Author.Tests.{eqb-true}
+use Rattle.lists.specs.Bool.{_and_, _or_, every-at, and-left, and-right, or-cases}
+use Rattle.numbers.specs.Ranges.{within}
+use Rattle.grid.specs.Mesh.{cellsOf}
+use Rattle.grid.specs.KindsFacts.{Kinded, kind-present}
+use Rattle.function.specs.declared.Element.{Element}
+use Rattle.function.specs.declared.Elements.{Elements}
+use Rattle.function.specs.Elements.{elementOf, cellDim, mostDim, elementsRight}
+
+-- a count that is not 0
+some : (n : ℕ) → 0 < n → eqb n 0 ≡ true → ⊥
+some n h e = let z : n ≡ 0 = eqb-true n 0 e in omega arith
+
+module _ (triangles quads : ℕ) (es : Elements) (right : elementsRight triangles quads es ≡ true) where
+  pub dim-three : 0 < triangles → within 1 mostDim (cellDim es 3) ≡ true
+  unfolding elementsRight
+  dim-three h = ⊎-elim (λ e. absurd (some triangles h e)) (λ e. e) (or-cases _ _ (every-at _ right 0))
+
+  pub dim-four : 0 < quads → within 1 mostDim (cellDim es 4) ≡ true
+  unfolding elementsRight
+  dim-four h = ⊎-elim (λ e. absurd (some quads h e)) (λ e. e) (or-cases _ _ (every-at _ right 1))
+
+  both : 0 < triangles → 0 < quads → eqb (es .triangle .a) (es .quad .a) and eqb (es .triangle .b) (es .quad .b) ≡ true
+  unfolding elementsRight
+  both h k =
+      ⊎-elim (λ e. ⊎-elim (λ t. absurd (some triangles h t)) (λ q. absurd (some quads k q)) (or-cases _ _ e)) (λ e. e)
+      (or-cases (eqb triangles 0 or eqb quads 0) _ (every-at _ right 2))
+
+-- on cells of kinds 3 and 4
+module _ (C : ℕ) (ks : List ℕ) (known : Kinded C ks) (es : Elements) (right : elementsRight (cellsOf ks 3) (cellsOf ks 4) es ≡ true) where
+  present : (n i : ℕ) → i < C → getD ks i 0 ≡ n → 0 < cellsOf ks n
+  present n i h e = kind-present ks n i (omega (arith, known .long)) e
+
+  -- the dim of each cell is from 1 to 10
+  pub dim-within : (i : ℕ) → i < C → within 1 mostDim (cellDim es (getD ks i 0)) ≡ true
+  dim-within i h =
+      ⊎-elim
+      (λ e. ap (λ (n : ℕ). within 1 mostDim (cellDim es n)) e ∙ dim-three _ _ es right (present 3 i h e))
+      (λ e. ap (λ (n : ℕ). within 1 mostDim (cellDim es n)) e ∙ dim-four _ _ es right (present 4 i h e))
+      (known .each i h)
+
+  -- what the elements of both kinds have in common, all cells have
+  common : (f : Element → ℕ) → (0 < cellsOf ks 3 → 0 < cellsOf ks 4 → f (es .triangle) ≡ f (es .quad))
+      → (i j : ℕ) → i < C → j < C → f (elementOf es (getD ks i 0)) ≡ f (elementOf es (getD ks j 0))
+  unfolding elementOf
+  common f same i j hi hj = go (known .each i hi) (known .each j hj)
+    where
+      go : (getD ks i 0 ≡ 3) ⊎ (getD ks i 0 ≡ 4) → (getD ks j 0 ≡ 3) ⊎ (getD ks j 0 ≡ 4) → f (elementOf es (getD ks i 0)) ≡ f (elementOf es (getD ks j 0))
+      go (inl p) (inl q) = rw (p, q)
+      go (inl p) (inr q) = let e : f (es .triangle) ≡ f (es .quad) = same (present 3 i hi p) (present 4 j hj q) in rw (p, q) e
+      go (inr p) (inl q) = let e : f (es .triangle) ≡ f (es .quad) = same (present 3 j hj q) (present 4 i hi p) in rw (p, q) (sym e)
+      go (inr p) (inr q) = rw (p, q)
+
+  pub same-vertices : (i j : ℕ) → i < C → j < C → elementOf es (getD ks i 0) .a ≡ elementOf es (getD ks j 0) .a
+  same-vertices = common (λ e. e .a) (λ t q. eqb-true _ _ (and-left _ _ (both _ _ es right t q)))
+
+  pub same-edges : (i j : ℕ) → i < C → j < C → elementOf es (getD ks i 0) .b ≡ elementOf es (getD ks j 0) .b
+  same-edges = common (λ e. e .b) (λ t q. eqb-true _ _ (and-right (eqb (es .triangle .a) (es .quad .a)) _ (both _ _ es right t q)))

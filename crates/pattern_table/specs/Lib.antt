@@ -1,0 +1,2 @@
+-- The table of patterns as rows of numbers (`Numbers`).
+pub mod Numbers
