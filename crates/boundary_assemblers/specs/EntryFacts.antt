@@ -15,37 +15,38 @@ use Rattle.lists.specs.Bool.{_and_, _or_, every, every-at, and-left, and-right,
 use Rattle.lists.specs.Bounded.{lt-or-le}
 use Rattle.lists.specs.Refusals.{Check, check, refusal, unless}
 use Rattle.grid.specs.Cells.{part}
+use Rattle.grid.specs.Mesh.{mostCells, mostVertices, mostEdges}
+use Rattle.numbers.specs.Ranges.{within}
 use Rattle.numbers.specs.Floats.{_!_}
 use Rattle.lent_numbers.specs.Lent.{Touching, touchingChecks}
 use Rattle.scatter.specs.Adding.{localRows, localColumns, localValues}
 use Rattle.scatter.specs.AddingFacts.{localValues-ext}
 use Rattle.scatter.specs.Entries.{entryAt}
-use Rattle.function.specs.Elements.{mostDim}
+use Rattle.function.specs.Elements.{mostDim, dimsRight}
+use Rattle.integrands.specs.Terms.{integrandRight}
 use Rattle.cell_pairs.specs.Blocks.{Block, block, blockAt, entriesBefore}
 use Rattle.plans.specs.declared.PlanNumbers.{PlanNumbers}
 use Rattle.runs.specs.Runs.{Run, Plan, EntryLists, entryLists, written, pairs, blocks, entriesOn, entriesTo, rangesRight, countsRight, kindsFit, planRight, pairLeft, recordRight, isTouching, entriesRight, entryPlace}
-use Rattle.boundary_assemblers.specs.RunFacts.{mostPairs, Ranges, kind-few, state-passed, Counts, standing}
+use Rattle.boundary_assemblers.specs.RunFacts.{Dims, kind-few, state-passed, Counts, standing}
 use Rattle.boundary_assemblers.specs.Forms.{checked, stateChecked, dofsAt, pairAt}
 use Rattle.boundary_assemblers.specs.declared.Pair.{Pair}
 use Rattle.boundary_assemblers.specs.declared.Checked.{Checked}
 use Rattle.boundary_assemblers.specs.declared.Checked.the-variants.{Passed}
 
--- 21 reads ranges and counts first, so that it does no harm to read them again with the entry lists
-pub sized-same : (r : Run) (l : Plan) (b : Bool) {c : Checked} → c ≡ stateChecked r l (every (rangesRight r ∷ countsRight r ∷ b ∷ [])) → c ≡ stateChecked r l b
-unfolding stateChecked refusal unless every _and_
+-- 21 reads the elements among the ranges, so that it does no harm to read them again with the entry lists
+pub sized-same : (r : Run) (l : Plan) (b : Bool) {c : Checked}
+    → c ≡ stateChecked r l (dimsRight (r .numbers .triangles) (r .numbers .quads) (r .numbers .test) (r .numbers .trial) and b) → c ≡ stateChecked r l b
+unfolding stateChecked refusal unless every _and_ rangesRight
 sized-same r l b h =
     h ∙ ap (λ (x : Bool). checked (unless x 21 (refusal (check 20 (pairLeft r) ∷ check 22 (recordRight r l) ∷ []))) (pairAt r l))
-    (go (rangesRight r) (countsRight r) (kindsFit r l) (planRight r l))
+    (go (within 1 mostCells (r .numbers .cells)) (within 3 mostVertices (r .numbers .vertices)) (within 3 mostEdges (r .numbers .edges)) (dimsRight (r .numbers .triangles) (r .numbers .quads) (r .numbers .test) (r .numbers .trial)) (integrandRight (r .numbers .integrand)) (countsRight r) (kindsFit r l) (planRight r l))
   where
-    go : (x y z w : Bool) → (x and y and z and w and (x and y and b)) ≡ (x and y and z and w and b)
-    go true true z w = refl
-    go true false z w = refl
-    go false y z w = refl
-
--- where ranges and counts are right, the lengths of the lists decide
-pub third-answers : (a b c x : Bool) → a ≡ true → b ≡ true → x ≡ c → x ≡ every (a ∷ b ∷ c ∷ [])
-unfolding every _and_
-third-answers a b c x e f g = rw (e, f) g
+    go : (x y z d f c k w : Bool) → ((x and y and z and d and f) and c and k and w and (d and b)) ≡ ((x and y and z and d and f) and c and k and w and b)
+    go true true true true f c k w = refl
+    go true true true false f c k w = refl
+    go true true false d f c k w = refl
+    go true false z d f c k w = refl
+    go false y z d f c k w = refl
 
 -- ---- blocks
 
@@ -110,15 +111,15 @@ sub-min q s = omega arith
 less : (s : ℕ) {q q′ a : ℕ} → q ≡ q′ → a ≡ min q s → q - a ≡ q′ - s
 less s {q} {q′} {a} e h = ap (λ (x : ℕ). q - x) h ∙ sub-min q s ∙ ap (λ (x : ℕ). x - s) e
 
--- each dim is at most 10, so that a block has at most so many
+-- each dim is at most 10, so that so many records, any u32, have at most so many
 abbrev pub mostEntries : ℕ
-mostEntries = mostPairs * (mostDim * mostDim)
+mostEntries = 2 ^ 32 * (mostDim * mostDim)
 
-module _ {r : Run} (h : Ranges r) (n k : ℕ) (test : (n ≡ 3) ⊎ (n ≡ 4)) (trial : (k ≡ 3) ⊎ (k ≡ 4)) where
-  pub one-few : entriesOn (r .numbers) n k ≤ mostDim * mostDim
-  one-few = mul-le-mul (kind-few (r .numbers) (r .numbers .test) (h .test) n test) (kind-few (r .numbers) (r .numbers .trial) (h .trial) k trial)
+module _ {p : PlanNumbers} (h : Dims p) (n k : ℕ) (test : (n ≡ 3) ⊎ (n ≡ 4)) (trial : (k ≡ 3) ⊎ (k ≡ 4)) where
+  pub one-few : entriesOn p n k ≤ mostDim * mostDim
+  one-few = mul-le-mul (kind-few p (p .test) (h .test) n test) (kind-few p (p .trial) (h .trial) k trial)
 
-  pub block-few : {records : ℕ} → records ≤ mostPairs → records * entriesOn (r .numbers) n k ≤ mostEntries
+  pub block-few : {records : ℕ} → records ≤ 2 ^ 32 → records * entriesOn p n k ≤ mostEntries
   block-few few = mul-le-mul few one-few
 
 four-fit : {x y z w : ℕ} → x ≤ mostEntries → y ≤ mostEntries → z ≤ mostEntries → w ≤ mostEntries → x + y + z + w < 2 ^ 64
@@ -148,7 +149,7 @@ module _ (r : Run) (q : ℕ) {a b c d : ℕ} (ea : a ≡ min q (r .numbers .pair
       (ec ∙ ap (λ (x : ℕ). min x (n .pairs .«quad_triangle»)) two)
       (ed ∙ ap (λ (x : ℕ). min x (n .pairs .«quad_quad»)) three)
 
-  pub entries-fit : Ranges r → q ≤ mostPairs → inBlocks < 2 ^ 64
+  pub entries-fit : Dims (r .numbers) → q ≤ 2 ^ 32 → inBlocks < 2 ^ 64
   entries-fit h few =
       let behind-one = left-few q a few in
       let behind-two = left-few (q - a) b behind-one in

@@ -1,11 +1,12 @@
 -- What the program's structs and enums stand for: for each case of an enum the paper's answer, and the run that is handed back. Assumes nothing.
-use Prim.Native.Nat.{ℕ, zero, suc}
+use Prim.Native.Nat.{ℕ, zero, suc, _+_, _-_, _*_}
 use mathlib.Core.Bool.{Bool}
 use mathlib.Core.List.{List}
 use lib.ListN.{getD, take, drop}
 use Rattle.lists.specs.Refusals.{refusal}
 use Rattle.grid.specs.Cells.{before}
 use Rattle.function.specs.declared.Elements.{Elements}
+use Rattle.cell_pairs.specs.declared.WorkRecord.{WorkRecord}
 use Rattle.function.specs.Elements.{cellDim}
 use Rattle.runs.specs.Runs as Runs
 use Rattle.runs.specs.Runs.{Plan, Reply, found, accepted, recordOf, stateChecks}
@@ -36,18 +37,21 @@ addedOf (AddRefused r n) = record { run = runOf r; answer = Runs.refused n }
 abbrev pub cellAt : List ℕ → Elements → ℕ → Cell
 cellAt ks es i = record { kind = getD ks i 0; start = before (cellDim es) ks i; dim = cellDim es (getD ks i 0) }
 
+-- a cell of kind k, as the code has it: so many of the i cells before it are quads
+abbrev pub cellBehind : Elements → ℕ → ℕ → ℕ → Cell
+cellBehind es k i quads = record { kind = k; start = (i - quads) * cellDim es 3 + quads * cellDim es 4; dim = cellDim es k }
+
 -- its DOFs, in the DOF list of that side
 abbrev pub dofsAt : List ℕ → Cell → List ℕ
 dofsAt dofs c = take (c .dim) (drop (c .start) dofs)
 
--- record p, and its two cells
+-- a record, and its two cells
+abbrev pub pairOf : List ℕ → Runs.Run → WorkRecord → Pair
+pairOf ks r e = record { item = e; test = cellAt ks (r .numbers .test) (e .test); trial = cellAt ks (r .numbers .trial) (e .trial) }
+
+-- those of record p
 abbrev pub pairAt : Runs.Run → Plan → Pair
-pairAt r l =
-    record {
-      item = recordOf r l;
-      test = cellAt (l .kinds) (r .numbers .test) (recordOf r l .test);
-      trial = cellAt (l .kinds) (r .numbers .trial) (recordOf r l .trial);
-    }
+pairAt r l = pairOf (l .kinds) r (recordOf r l)
 
 -- what the checks of the state hand back, by the refusal's number: 0 is no refusal
 unfoldable pub checked : ℕ → Pair → Checked

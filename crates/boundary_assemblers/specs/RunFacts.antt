@@ -29,30 +29,36 @@ use Rattle.runs.specs.CellDofs.{kind-dim}
 use Rattle.boundary_assemblers.specs.declared.Cell.{Cell}
 use Rattle.boundary_assemblers.specs.declared.Pair.{Pair}
 use Rattle.boundary_assemblers.specs.declared.Checked.the-variants.{Passed, Refused}
-use Rattle.boundary_assemblers.specs.Forms.{cellAt, dofsAt, pairAt, checked, stateChecked}
+use Rattle.boundary_assemblers.specs.Forms.{cellAt, cellBehind, dofsAt, pairOf, pairAt, checked, stateChecked}
 
 -- the most pairs: C·C
 abbrev pub mostPairs : ℕ
 mostPairs = mostCells * mostCells
 
+-- 21: the elements
+pub record Dims (n : PlanNumbers) : Type 0 where
+  pub test : elementsRight (n .triangles) (n .quads) (n .test) ≡ true
+  pub trial : elementsRight (n .triangles) (n .quads) (n .trial) ≡ true
+
+pub dims : (n : PlanNumbers) → dimsRight (n .triangles) (n .quads) (n .test) (n .trial) ≡ true → Dims n
+unfolding dimsRight
+dims n h = record { test = and-left _ _ h; trial = and-right _ _ h }
+
 -- 21: the ranges
 pub record Ranges (r : Run) : Type 0 where
   pub cells : r .numbers .cells ≤ mostCells
-  pub test : elementsRight (r .numbers .triangles) (r .numbers .quads) (r .numbers .test) ≡ true
-  pub trial : elementsRight (r .numbers .triangles) (r .numbers .quads) (r .numbers .trial) ≡ true
+  pub sides : Dims (r .numbers)
   pub integrand : integrandRight (r .numbers .integrand) ≡ true
   -- C·C
   pub all-pairs : pairs (r .numbers) ≤ mostPairs
 
 pub ranges : (r : Run) → rangesRight r ≡ true → Ranges r
-unfolding rangesRight dimsRight
+unfolding rangesRight
 ranges r h =
-    let dims = every-at _ h 3 in
     let many = within-high _ _ _ (every-at _ h 0) in
     record {
       cells = many;
-      test = and-left _ _ dims;
-      trial = and-right _ _ dims;
+      sides = dims (r .numbers) (every-at _ h 3);
       integrand = every-at _ h 4;
       all-pairs = mul-le-mul many many;
     }
@@ -123,6 +129,10 @@ module _ {n : PlanNumbers} {ks : List ℕ} (h : Matched n ks) where
         let threes : i - q ≡ kindsTo ks 3 i = omega (arith, both, e) in
         rw (threes, e) (sym (before-kinds ks (cellDim es) i (λ j k. h .kinded .each j (omega arith))))
 
+    -- so a cell is as the code has it
+    pub cell-is : (es : Elements) {k q : ℕ} → k ≡ getD ks i 0 → q ≡ kindsTo ks 4 i → cellBehind es k i q ≡ cellAt ks es i
+    cell-is es {k} {q} a e = rw (start-is es e, a) refl
+
     -- where there are none, or nothing else, they need no counting
     pub none-before : n .quads ≡ 0 → 0 ≡ kindsTo ks 4 i
     none-before e = omega (arith, e, h .quads, before-le (λ k. gate (eqb k 4) 1) ks i (n .cells) (omega arith))
@@ -177,9 +187,8 @@ record-right r l = go (recordKnown r (recordOf r l)) _ _
     go false b c = refl
 
 -- record p and its cells, as the code has them
-pub pair-is : (r : Run) (l : Plan) {e : WorkRecord} {t u : Cell} → e ≡ recordOf r l → t ≡ cellAt (l .kinds) (r .numbers .test) (e .test) → u ≡ cellAt (l .kinds) (r .numbers .trial) (e .trial)
-    → _≡_ {A = Pair} (record { item = e; test = t; trial = u }) (pairAt r l)
-pair-is r l q x y = rw (x, y, q) refl
+pub pair-is : (r : Run) (l : Plan) {e : WorkRecord} {x : Pair} → e ≡ recordOf r l → x ≡ pairOf (l .kinds) r e → x ≡ pairAt r l
+pair-is r l q h = h ∙ ap (λ (e : WorkRecord). pairOf (l .kinds) r e) q
 
 -- ---- 21, 20, 22 in order
 
@@ -278,8 +287,8 @@ standing r l sized {e} h =
       counts = p;
       size = run 4;
       below = omega (arith, p .position);
-      test = record { ends = both .0 .ends; few = dim-few m _ (known r _ k .test) _ (ranges r (run 0) .test); below = and-left _ _ (and-right _ _ right) };
-      trial = record { ends = both .1 .ends; few = dim-few m _ (known r _ k .trial) _ (ranges r (run 0) .trial); below = and-right _ _ (and-right _ _ right) };
+      test = record { ends = both .0 .ends; few = dim-few m _ (known r _ k .test) _ (ranges r (run 0) .sides .test); below = and-left _ _ (and-right _ _ right) };
+      trial = record { ends = both .1 .ends; few = dim-few m _ (known r _ k .trial) _ (ranges r (run 0) .sides .trial); below = and-right _ _ (and-right _ _ right) };
       test-dim = m .dims _ (known r _ k .test) _;
       trial-dim = m .dims _ (known r _ k .trial) _;
     })

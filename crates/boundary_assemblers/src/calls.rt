@@ -29,8 +29,8 @@ ghost use Rattle.grid.specs.Mesh.{mostCells};
 ghost use Rattle.grid.specs.KindsFacts.{kindsTo};
 ghost use Rattle.function.specs.Elements.{cellDim};
 ghost use Rattle.runs.specs.Runs.{begin, beginEntries, rangesRight, countsRight, kindsFit, planRight, recordKnown, look, planOf};
-ghost use Rattle.boundary_assemblers.specs.Forms.{runOf, lookedOf, stateChecked, dofsAt, cellAt};
-ghost use Rattle.boundary_assemblers.specs.RunFacts.{Matched, Inside, dofsBelow};
+ghost use Rattle.boundary_assemblers.specs.Forms.{runOf, lookedOf, stateChecked, cellBehind, dofsAt, pairOf};
+ghost use Rattle.boundary_assemblers.specs.RunFacts.{Matched, Known, Inside, dofsBelow};
 
 // How many local DOFs so many triangles and quads have together. Of elements that hold any u32 the sum fits.
 fn dofs_on(triangles: u32, quads: u32, elements: Elements) -> usize
@@ -38,6 +38,18 @@ fn dofs_on(triangles: u32, quads: u32, elements: Elements) -> usize
     ensures { λ r. ⌜ r ≡ triangles * cellDim elements 3 + quads * cellDim elements 4 ⌝ }
 {
     wide(triangles) * elements.dim(3) + wide(quads) * elements.dim(4)
+}
+
+// A cell of a kind on a side with these elements, where so many of the cells before it are quads.
+fn cell_at(elements: Elements, kind: u8, cell: u32, quads: u32) -> Cell
+    requires { ⌜ (quads ≤ cell) × (cell ≤ mostCells) ⌝ }
+    ensures { λ r. ⌜ r ≡ cellBehind elements kind cell quads ⌝ }
+{
+    Cell {
+        kind: kind,
+        start: dofs_on(cell - quads, quads, elements),
+        dim: elements.dim(kind),
+    }
 }
 
 // The DOFs of a cell in the DOF list of its side.
@@ -144,17 +156,20 @@ impl Run {
         count_kind(&kinds[..wide(cell)], 4)
     }
 
-    // A cell of one side, which has these elements.
-    fn cell_at(self, kinds: &[u8], elements: Elements, cell: u32) -> Cell
-        requires { ⌜ Matched (self .numbers) (now kinds) × (cell < self .numbers .cells) ⌝ }
-        ensures { λ r. ⌜ r ≡ cellAt (now (kinds .entry)) elements cell ⌝ }
+    // A record with its two cells.
+    fn pair_at(self, kinds: &[u8], e: WorkRecord) -> Pair
+        requires { ⌜ Matched (self .numbers) (now kinds) × Known (runOf self) e ⌝ }
+        ensures { λ r. ⌜ r ≡ pairOf (now (kinds .entry)) (runOf self) e ⌝ }
     {
-        let quads = self.quads_before(kinds, cell);
-        let kind = kinds[wide(cell)];
-        Cell {
-            kind: kind,
-            start: dofs_on(cell - quads, quads, elements),
-            dim: elements.dim(kind),
+        let n = self.numbers;
+        let i = e.test;
+        let j = e.trial;
+        let test_quads = self.quads_before(kinds, i);
+        let trial_quads = self.quads_before(kinds, j);
+        Pair {
+            item: e,
+            test: cell_at(n.test, kinds[wide(i)], i, test_quads),
+            trial: cell_at(n.trial, kinds[wide(j)], j, trial_quads),
         }
     }
 
@@ -212,11 +227,7 @@ impl Run {
         if !self.record_known(record) {
             return Checked::Refused(22);
         }
-        let e = Pair {
-            item: record,
-            test: self.cell_at(kinds, n.test, record.test),
-            trial: self.cell_at(kinds, n.trial, record.trial),
-        };
+        let e = self.pair_at(kinds, record);
         if !self.dofs_right(test_dofs, trial_dofs, e) {
             return Checked::Refused(22);
         }

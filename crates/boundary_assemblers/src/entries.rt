@@ -9,6 +9,7 @@ use cell_pair_assemblers::LocalMatrix;
 use cell_pair_assemblers::touching_matrix;
 use cell_pairs::NO_PATTERN;
 use function::Elements;
+use function::dims_right;
 use lent_numbers::touching_refusal;
 use numbers::wide;
 use plans::PlanNumbers;
@@ -17,14 +18,14 @@ use scatter::write_rows;
 use scatter::write_values;
 ghost use mathlib.Core.Path.{_≡_};
 ghost use mathlib.Core.Logic.{_⊎_};
-ghost use Prim.Native.Nat.{_*_, _≤_, _<_, min};
-ghost use mathlib.Core.List.{[], _∷_};
-ghost use Rattle.lists.specs.Bool.{every};
+ghost use Prim.Native.Nat.{_*_, _<_, min};
+ghost use Rattle.lists.specs.Bool.{_and_};
+ghost use Rattle.function.specs.Elements.{dimsRight};
 ghost use Rattle.lent_numbers.specs.Lent.{touching};
 ghost use Rattle.scatter.specs.Entries.{entryAt};
-ghost use Rattle.runs.specs.Runs.{pairs, kindCells, kindDim, entriesOn, entriesTo, rangesRight, countsRight, entriesRight, addEntries, entriesWritten, planOf, entryLists};
+ghost use Rattle.runs.specs.Runs.{pairs, kindCells, kindDim, entriesOn, entriesTo, entriesRight, addEntries, entriesWritten, planOf, entryLists};
 ghost use Rattle.boundary_assemblers.specs.Forms.{runOf, addedOf, dofsAt};
-ghost use Rattle.boundary_assemblers.specs.RunFacts.{mostPairs, Ranges, Counts, Standing};
+ghost use Rattle.boundary_assemblers.specs.RunFacts.{Dims, Counts, Standing};
 ghost use Rattle.boundary_assemblers.specs.EntryFacts.{putAt, Fit, writtenAt};
 
 // The smaller of two numbers.
@@ -55,7 +56,7 @@ fn kind_dim(n: PlanNumbers, elements: Elements, kind: u8) -> usize
 impl Run {
     // The entries of so many records of two kinds.
     fn entries_of(self, records: u32, test_kind: u8, trial_kind: u8) -> usize
-        requires { ⌜ Ranges (runOf self) × (records ≤ mostPairs) ⌝ }
+        requires { ⌜ Dims (self .numbers) ⌝ }
         requires { ⌜ ((«test_kind» ≡ 3) ⊎ («test_kind» ≡ 4)) × ((«trial_kind» ≡ 3) ⊎ («trial_kind» ≡ 4)) ⌝ }
         ensures { λ r. ⌜ r ≡ records * entriesOn (self .numbers) «test_kind» «trial_kind» ⌝ }
     {
@@ -67,7 +68,7 @@ impl Run {
 
     // The entries of the first q touching records, block after block.
     fn entries_to(self, q: u32) -> usize
-        requires { ⌜ Ranges (runOf self) × (q ≤ mostPairs) ⌝ }
+        requires { ⌜ Dims (self .numbers) ⌝ }
         ensures { λ r. ⌜ r ≡ entriesTo (self .numbers) q ⌝ }
     {
         let n = self.numbers;
@@ -85,17 +86,14 @@ impl Run {
             + self.entries_of(d, 4, 4)
     }
 
-    // 21: the run's numbers are right, and the entry lists have their length.
+    // 21: the elements are right, and the entry lists have their length.
     fn entries_right(self, rows: &[u32], columns: &[u32], values: &[f64]) -> bool
-        ensures { λ r. ⌜ r ≡ every (rangesRight (runOf self) ∷ countsRight (runOf self) ∷ entriesRight (runOf self) (entryLists (now (rows .entry)) (now (columns .entry)) (now (values .entry))) ∷ []) ⌝ }
+        ensures { λ r. ⌜ r ≡ (dimsRight (self .numbers .triangles) (self .numbers .quads) (self .numbers .test) (self .numbers .trial) and entriesRight (runOf self) (entryLists (now (rows .entry)) (now (columns .entry)) (now (values .entry)))) ⌝ }
     {
-        if !self.ranges_right() {
-            return false;
-        }
-        if !self.counts_right() {
-            return false;
-        }
         let n = self.numbers;
+        if !dims_right(n.triangles, n.quads, n.test, n.trial) {
+            return false;
+        }
         let count = self.entries_to(n.touching);
         (rows.len() == count) & (columns.len() == count) & (values.len() == count)
     }

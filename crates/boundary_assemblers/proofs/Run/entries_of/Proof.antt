@@ -18,12 +18,12 @@ wide-requires c κs = search needs
 mul-result : tie.Need-mul-result
 mul-result c =
     let start = c .before .before .before .before in
-    rw (c .before .kind-dim2 .ensures, c .before .before .kind-dim .ensures) (omega (arith, one-few (start .pre .0 .0) _ _ (start .pre .1 .0) (start .pre .1 .1)))
+    rw (c .before .kind-dim2 .ensures, c .before .before .kind-dim .ensures) (omega (arith, one-few (start .pre .0) _ _ (start .pre .1 .0) (start .pre .1 .1)))
 
 mul-result-2 : tie.Need-mul-result-2
 mul-result-2 c =
     let start = c .before .before .before .before in
-    rw (c .wide .ensures, c .before .kind-dim2 .ensures, c .before .before .kind-dim .ensures) (omega (arith, block-few (start .pre .0 .0) _ _ (start .pre .1 .0) (start .pre .1 .1) (start .pre .0 .1)))
+    rw (c .wide .ensures, c .before .kind-dim2 .ensures, c .before .before .kind-dim .ensures) (omega (arith, block-few (start .pre .0) _ _ (start .pre .1 .0) (start .pre .1 .1) {records = start .args .records} (omega arith)))
 
 returns : tie.Need-returns
 returns c = rw (c .wide .ensures, c .before .kind-dim2 .ensures, c .before .before .kind-dim .ensures) refl

@@ -32,40 +32,40 @@ least-requires-4 c κs = search needs
 entries-of-requires : tie.Need-entries-of-requires
 entries-of-requires c κs =
     let start = c .before .before .before .before .before .before in
-    ((start .pre .0, omega (arith, c .before .before .before .least .ensures, start .pre .1)), (inl refl, inl refl))
+    (start .pre, (inl refl, inl refl))
 
 entries-of-requires-2 : tie.Need-entries-of-requires-2
 entries-of-requires-2 c κs =
     let start = c .before .before .before .before .before .before .before in
-    ((start .pre .0, omega (arith, c .before .before .before .least2 .ensures, start .pre .1)), (inl refl, inr refl))
+    (start .pre, (inl refl, inr refl))
 
 add-result : tie.Need-add-result
 add-result c =
     let start = c .before .before .before .before .before .before .before .before in
     rw (c .entries-of2 .ensures, c .before .entries-of .ensures)
-    (omega (arith, entries-fit (runOf (start .args .self)) (start .args .q) (c .before .before .before .before .before .least .ensures) (c .before .before .before .before .least2 .ensures) (c .before .before .before .least3 .ensures) (c .before .before .least4 .ensures) (start .pre .0) (start .pre .1)))
+    (omega (arith, entries-fit (runOf (start .args .self)) (start .args .q) (c .before .before .before .before .before .least .ensures) (c .before .before .before .before .least2 .ensures) (c .before .before .before .least3 .ensures) (c .before .before .least4 .ensures) (start .pre) (omega arith)))
 
 entries-of-requires-3 : tie.Need-entries-of-requires-3
 entries-of-requires-3 c κs =
     let start = c .before .before .before .before .before .before .before .before in
-    ((start .pre .0, omega (arith, c .before .before .before .least3 .ensures, start .pre .1)), (inr refl, inl refl))
+    (start .pre, (inr refl, inl refl))
 
 add-result-2 : tie.Need-add-result-2
 add-result-2 c =
     let start = c .before .before .before .before .before .before .before .before .before in
     rw (c .entries-of3 .ensures, c .before .entries-of2 .ensures, c .before .before .entries-of .ensures)
-    (omega (arith, entries-fit (runOf (start .args .self)) (start .args .q) (c .before .before .before .before .before .before .least .ensures) (c .before .before .before .before .before .least2 .ensures) (c .before .before .before .before .least3 .ensures) (c .before .before .before .least4 .ensures) (start .pre .0) (start .pre .1)))
+    (omega (arith, entries-fit (runOf (start .args .self)) (start .args .q) (c .before .before .before .before .before .before .least .ensures) (c .before .before .before .before .before .least2 .ensures) (c .before .before .before .before .least3 .ensures) (c .before .before .before .least4 .ensures) (start .pre) (omega arith)))
 
 entries-of-requires-4 : tie.Need-entries-of-requires-4
 entries-of-requires-4 c κs =
     let start = c .before .before .before .before .before .before .before .before .before in
-    ((start .pre .0, omega (arith, c .before .before .before .least4 .ensures, start .pre .1)), (inr refl, inr refl))
+    (start .pre, (inr refl, inr refl))
 
 add-result-3 : tie.Need-add-result-3
 add-result-3 c =
     let start = c .before .before .before .before .before .before .before .before .before .before in
     rw (c .entries-of4 .ensures, c .before .entries-of3 .ensures, c .before .before .entries-of2 .ensures, c .before .before .before .entries-of .ensures)
-    (omega (arith, entries-fit (runOf (start .args .self)) (start .args .q) (c .before .before .before .before .before .before .before .least .ensures) (c .before .before .before .before .before .before .least2 .ensures) (c .before .before .before .before .before .least3 .ensures) (c .before .before .before .before .least4 .ensures) (start .pre .0) (start .pre .1)))
+    (omega (arith, entries-fit (runOf (start .args .self)) (start .args .q) (c .before .before .before .before .before .before .before .least .ensures) (c .before .before .before .before .before .before .least2 .ensures) (c .before .before .before .before .before .least3 .ensures) (c .before .before .before .before .least4 .ensures) (start .pre) (omega arith)))
 
 returns : tie.Need-returns
 returns c =

@@ -64,36 +64,30 @@ returns-6 c =
     (λ e. c .before .before .before .if5 .left (c .before .before .before .before .wide2 .ensures ∙ e ∙ sym (ap (λ (n : ℕ). n * n) (c .before .before .before .before .before .wide .ensures))))
     _ (c .before .before .record-at .ensures ∙ ap (recordAt _) (c .before .before .before .before .wide2 .ensures)) (turned (c .before .record-known .ensures) (c .if6 .taken))
 
-cell-at-requires : tie.Need-cell-at-requires
+pair-at-requires : tie.Need-pair-at-requires
 unfolding kindsFit
-cell-at-requires c κs =
+pair-at-requires c κs =
     let start = c .before .before .before .before .before .before .before .before .before .before .before .before .before .before .before .before .before .before in
-    (matched (start .args .self .numbers) _ (ranges (runOf (start .args .self)) (passed (c .before .before .before .before .before .before .before .before .before .before .before .before .before .ranges-right .ensures) (c .before .before .before .before .before .before .before .before .before .before .before .before .if1 .left)) .cells) (and-left _ _ (passed (c .before .before .before .before .before .before .before .before .before .plan-right .ensures) (c .before .before .before .before .before .before .before .before .if3 .left))), known (runOf (start .args .self)) _ (passed (c .before .record-known .ensures) (c .if6 .left)) .test)
-
-cell-at-requires-2 : tie.Need-cell-at-requires-2
-unfolding kindsFit
-cell-at-requires-2 c κs =
-    let start = c .before .before .before .before .before .before .before .before .before .before .before .before .before .before .before .before .before .before .before in
-    (matched (start .args .self .numbers) _ (ranges (runOf (start .args .self)) (passed (c .before .before .before .before .before .before .before .before .before .before .before .before .before .before .ranges-right .ensures) (c .before .before .before .before .before .before .before .before .before .before .before .before .before .if1 .left)) .cells) (and-left _ _ (passed (c .before .before .before .before .before .before .before .before .before .before .plan-right .ensures) (c .before .before .before .before .before .before .before .before .before .if3 .left))), known (runOf (start .args .self)) _ (passed (c .before .before .record-known .ensures) (c .before .if6 .left)) .trial)
+    (matched (start .args .self .numbers) _ (ranges (runOf (start .args .self)) (passed (c .before .before .before .before .before .before .before .before .before .before .before .before .before .ranges-right .ensures) (c .before .before .before .before .before .before .before .before .before .before .before .before .if1 .left)) .cells) (and-left _ _ (passed (c .before .before .before .before .before .before .before .before .before .plan-right .ensures) (c .before .before .before .before .before .before .before .before .if3 .left))), known (runOf (start .args .self)) _ (passed (c .before .record-known .ensures) (c .if6 .left)))
 
 dofs-right-requires : tie.Need-dofs-right-requires
-dofs-right-requires c κs = rw (c .cell-at2 .ensures, c .before .cell-at .ensures) (both-inside (runOf (c .before .before .before .before .before .before .before .before .before .before .before .before .before .before .before .before .before .before .before .before .args .self)) _ (and-right _ _ (passed (c .before .before .before .before .before .before .before .before .before .before .before .plan-right .ensures) (c .before .before .before .before .before .before .before .before .before .before .if3 .left))) _ (passed (c .before .before .before .record-known .ensures) (c .before .before .if6 .left)))
+dofs-right-requires c κs = rw (c .pair-at .ensures) (both-inside (runOf (c .before .before .before .before .before .before .before .before .before .before .before .before .before .before .before .before .before .before .before .args .self)) _ (and-right _ _ (passed (c .before .before .before .before .before .before .before .before .before .before .plan-right .ensures) (c .before .before .before .before .before .before .before .before .before .if3 .left))) _ (passed (c .before .before .record-known .ensures) (c .before .if6 .left)))
 
 returns-7 : tie.Need-returns-7
 returns-7 c =
-    let start = c .before .before .before .before .before .before .before .before .before .before .before .before .before .before .before .before .before .before .before .before .before .before in
+    let start = c .before .before .before .before .before .before .before .before .before .before .before .before .before .before .before .before .before .before .before .before .before in
     dofs-fail _ _ _
-    (passed (c .before .before .before .before .before .before .before .before .before .before .before .before .before .before .before .before .before .ranges-right .ensures) (c .before .before .before .before .before .before .before .before .before .before .before .before .before .before .before .before .if1 .left) also passed (c .before .before .before .before .before .before .before .before .before .before .before .before .before .before .before .counts-right .ensures) (c .before .before .before .before .before .before .before .before .before .before .before .before .before .before .if2 .left) also and-left _ _ (passed (c .before .before .before .before .before .before .before .before .before .before .before .before .before .plan-right .ensures) (c .before .before .before .before .before .before .before .before .before .before .before .before .if3 .left)) also and-right _ _ (passed (c .before .before .before .before .before .before .before .before .before .before .before .before .before .plan-right .ensures) (c .before .before .before .before .before .before .before .before .before .before .before .before .if3 .left)) also not-false _ (c .before .before .before .before .before .before .before .before .before .before .before .if4 .left) also end)
-    (λ e. c .before .before .before .before .before .before .before .if5 .left (c .before .before .before .before .before .before .before .before .wide2 .ensures ∙ e ∙ sym (ap (λ (n : ℕ). n * n) (c .before .before .before .before .before .before .before .before .before .wide .ensures))))
-    _ (pair-is (runOf (start .args .self)) (planOf (start .args .kinds .now) (start .args .test-dofs .now) (start .args .trial-dofs .now) (start .args .work .now)) (c .before .before .before .before .before .before .record-at .ensures ∙ ap (recordAt _) (c .before .before .before .before .before .before .before .before .wide2 .ensures)) (c .before .before .before .cell-at .ensures) (c .before .before .cell-at2 .ensures)) (turned (c .before .dofs-right .ensures) (c .if7 .taken))
+    (passed (c .before .before .before .before .before .before .before .before .before .before .before .before .before .before .before .before .ranges-right .ensures) (c .before .before .before .before .before .before .before .before .before .before .before .before .before .before .before .if1 .left) also passed (c .before .before .before .before .before .before .before .before .before .before .before .before .before .before .counts-right .ensures) (c .before .before .before .before .before .before .before .before .before .before .before .before .before .if2 .left) also and-left _ _ (passed (c .before .before .before .before .before .before .before .before .before .before .before .before .plan-right .ensures) (c .before .before .before .before .before .before .before .before .before .before .before .if3 .left)) also and-right _ _ (passed (c .before .before .before .before .before .before .before .before .before .before .before .before .plan-right .ensures) (c .before .before .before .before .before .before .before .before .before .before .before .if3 .left)) also not-false _ (c .before .before .before .before .before .before .before .before .before .before .if4 .left) also end)
+    (λ e. c .before .before .before .before .before .before .if5 .left (c .before .before .before .before .before .before .before .wide2 .ensures ∙ e ∙ sym (ap (λ (n : ℕ). n * n) (c .before .before .before .before .before .before .before .before .wide .ensures))))
+    _ (pair-is (runOf (start .args .self)) (planOf (start .args .kinds .now) (start .args .test-dofs .now) (start .args .trial-dofs .now) (start .args .work .now)) (c .before .before .before .before .before .record-at .ensures ∙ ap (recordAt _) (c .before .before .before .before .before .before .before .wide2 .ensures)) (c .before .before .pair-at .ensures)) (turned (c .before .dofs-right .ensures) (c .if7 .taken))
 
 returns-8 : tie.Need-returns-8
 returns-8 c =
-    let start = c .before .before .before .before .before .before .before .before .before .before .before .before .before .before .before .before .before .before .before .before .before .before in
+    let start = c .before .before .before .before .before .before .before .before .before .before .before .before .before .before .before .before .before .before .before .before .before in
     all-pass _ _ _
-    (passed (c .before .before .before .before .before .before .before .before .before .before .before .before .before .before .before .before .before .ranges-right .ensures) (c .before .before .before .before .before .before .before .before .before .before .before .before .before .before .before .before .if1 .left) also passed (c .before .before .before .before .before .before .before .before .before .before .before .before .before .before .before .counts-right .ensures) (c .before .before .before .before .before .before .before .before .before .before .before .before .before .before .if2 .left) also and-left _ _ (passed (c .before .before .before .before .before .before .before .before .before .before .before .before .before .plan-right .ensures) (c .before .before .before .before .before .before .before .before .before .before .before .before .if3 .left)) also and-right _ _ (passed (c .before .before .before .before .before .before .before .before .before .before .before .before .before .plan-right .ensures) (c .before .before .before .before .before .before .before .before .before .before .before .before .if3 .left)) also not-false _ (c .before .before .before .before .before .before .before .before .before .before .before .if4 .left) also end)
-    (λ e. c .before .before .before .before .before .before .before .if5 .left (c .before .before .before .before .before .before .before .before .wide2 .ensures ∙ e ∙ sym (ap (λ (n : ℕ). n * n) (c .before .before .before .before .before .before .before .before .before .wide .ensures))))
-    _ (pair-is (runOf (start .args .self)) (planOf (start .args .kinds .now) (start .args .test-dofs .now) (start .args .trial-dofs .now) (start .args .work .now)) (c .before .before .before .before .before .before .record-at .ensures ∙ ap (recordAt _) (c .before .before .before .before .before .before .before .before .wide2 .ensures)) (c .before .before .before .cell-at .ensures) (c .before .before .cell-at2 .ensures)) (passed (c .before .before .before .before .before .record-known .ensures) (c .before .before .before .before .if6 .left)) (passed (c .before .dofs-right .ensures) (c .if7 .left))
+    (passed (c .before .before .before .before .before .before .before .before .before .before .before .before .before .before .before .before .ranges-right .ensures) (c .before .before .before .before .before .before .before .before .before .before .before .before .before .before .before .if1 .left) also passed (c .before .before .before .before .before .before .before .before .before .before .before .before .before .before .counts-right .ensures) (c .before .before .before .before .before .before .before .before .before .before .before .before .before .if2 .left) also and-left _ _ (passed (c .before .before .before .before .before .before .before .before .before .before .before .before .plan-right .ensures) (c .before .before .before .before .before .before .before .before .before .before .before .if3 .left)) also and-right _ _ (passed (c .before .before .before .before .before .before .before .before .before .before .before .before .plan-right .ensures) (c .before .before .before .before .before .before .before .before .before .before .before .if3 .left)) also not-false _ (c .before .before .before .before .before .before .before .before .before .before .if4 .left) also end)
+    (λ e. c .before .before .before .before .before .before .if5 .left (c .before .before .before .before .before .before .before .wide2 .ensures ∙ e ∙ sym (ap (λ (n : ℕ). n * n) (c .before .before .before .before .before .before .before .before .wide .ensures))))
+    _ (pair-is (runOf (start .args .self)) (planOf (start .args .kinds .now) (start .args .test-dofs .now) (start .args .trial-dofs .now) (start .args .work .now)) (c .before .before .before .before .before .record-at .ensures ∙ ap (recordAt _) (c .before .before .before .before .before .before .before .wide2 .ensures)) (c .before .before .pair-at .ensures)) (rw (c .before .before .pair-at .ensures) (passed (c .before .before .before .before .record-known .ensures) (c .before .before .before .if6 .left))) (passed (c .before .dofs-right .ensures) (c .if7 .left))
 
 pub state-checked-spec : {M : Type 1} → statement M
 state-checked-spec =
@@ -113,8 +107,7 @@ state-checked-spec =
     record-at-requires
     record-known-requires
     returns-6
-    cell-at-requires
-    cell-at-requires-2
+    pair-at-requires
     dofs-right-requires
     returns-7
     returns-8)

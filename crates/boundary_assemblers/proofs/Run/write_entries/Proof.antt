@@ -18,8 +18,7 @@ sub-entries-to c = c .before .before .before .before .before .before .before .be
 
 entries-to-requires : tie.Need-entries-to-requires
 entries-to-requires c κs =
-    let start = c .before .before .before .before .before .before .before .before .before .before .before .before in
-    (start .pre .0 .ranges, omega (arith, start .pre .0 .below, start .pre .0 .ranges .all-pairs))
+    c .before .before .before .before .before .before .before .before .before .before .before .before .pre .0 .ranges .sides
 
 write-rows-requires : tie.Need-write-rows-requires
 write-rows-requires c κs =
