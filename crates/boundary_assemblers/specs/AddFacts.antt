@@ -1,5 +1,5 @@
 -- What an add needs where nothing turns it down, the ways it ends, and what it comes to. Assumes nothing.
-use Prim.Native.Nat.{ℕ, zero, suc, _+_, _*_, _<_}
+use Prim.Native.Nat.{ℕ, zero, suc}
 use native.Mathlib.Omega.{arith}
 use mathlib.Core.Path.{_≡_, refl, sym, ap, _∙_}
 use mathlib.Core.Bool.{Bool, true, false, not}
@@ -11,8 +11,8 @@ use Rattle.lists.specs.Bool.{_and_}
 use Rattle.lists.specs.Refusals.{Check, check, refusal, refusal-first, refusal-rest, refusal-fails, refusal-passes}
 use Rattle.grid.specs.Cells.{part}
 use Rattle.numbers.specs.Ranges.{below-at}
-use Rattle.numbers.specs.Floats.{_!_}
 use Rattle.lent_numbers.specs.Lent.{Touching, Distant, touchingChecks, distantChecks}
+use Rattle.integrands.specs.Columns.{Held}
 use Rattle.scatter.specs.Adding.{addLocal}
 use Rattle.scatter.specs.AddingFacts.{addLocal-ext}
 use Rattle.scatter.specs.Entries.{entryAt, AddFits}
@@ -92,15 +92,14 @@ check-passes n b rest h e = e ∙ sym (refusal-passes n b rest (not-false _ h))
 
 -- the sum of the entries that the local matrix holds is that of the local entries
 pub sum-is : (r : Run) (l : Plan) (sized : Bool) {e : Pair} → Passed e ≡ stateChecked r l sized
-    → (M : List Float) {M′ : List Float} (entries : List Float) (entry : ℕ → ℕ → Float)
-    → ((i j : ℕ) → i < e .test .dim → j < e .trial .dim → entries ! (i + e .test .dim * j) ≡ entry i j)
+    → (M : List Float) {M′ : List Float} {entries : List Float} (entry : ℕ → ℕ → Float) → Held (e .test .dim) (e .trial .dim) entries entry
     → M′ ≡ addLocal (entryAt entries (e .test .dim)) (r .numbers .rows) (dofsAt (l .testDofs) (e .test)) (dofsAt (l .trialDofs) (e .trial)) M
     → M′ ≡ addLocal entry (r .numbers .rows) (testDofsOf r l) (trialDofsOf r l) M
 unfolding part
-sum-is r l sized {e} s M entries entry each w =
+sum-is r l sized {e} s M {M′} {entries} entry held w =
     let h = standing r l sized s in
     w ∙ addLocal-ext (entryAt entries (e .test .dim)) entry (r .numbers .rows) (dofsAt (l .testDofs) (e .test)) (dofsAt (l .trialDofs) (e .trial))
-    (λ i j hi hj. each i j (omega (arith, dofs-long (h .test))) (omega (arith, dofs-long (h .trial)))) M
+    (λ i j hi hj. held .at i j (omega (arith, dofs-long (h .test))) (omega (arith, dofs-long (h .trial)))) M
     ∙ ap (λ (p : Pair). addLocal entry (r .numbers .rows) (dofsAt (l .testDofs) (p .test)) (dofsAt (l .trialDofs) (p .trial)) M) (state-passed r l sized s .1)
 
 -- the local matrix is read by the test cell's dim

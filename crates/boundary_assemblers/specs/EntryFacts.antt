@@ -17,8 +17,8 @@ use Rattle.lists.specs.Refusals.{Check, check, refusal, unless}
 use Rattle.grid.specs.Cells.{part}
 use Rattle.grid.specs.Mesh.{mostCells, mostVertices, mostEdges}
 use Rattle.numbers.specs.Ranges.{within}
-use Rattle.numbers.specs.Floats.{_!_}
 use Rattle.lent_numbers.specs.Lent.{Touching, touchingChecks}
+use Rattle.integrands.specs.Columns.{Held}
 use Rattle.scatter.specs.Adding.{localRows, localColumns, localValues}
 use Rattle.scatter.specs.AddingFacts.{localValues-ext}
 use Rattle.scatter.specs.Entries.{entryAt}
@@ -248,14 +248,13 @@ writtenAt r e ts us entry lists =
 
 -- by the local matrix of the record's pair
 pub values-are : (r : Run) (l : Plan) (sized : Bool) {e : Pair} → Passed e ≡ stateChecked r l sized
-    → (lists : EntryLists) (entries : List Float) (entry : ℕ → ℕ → Float)
-    → ((i j : ℕ) → i < e .test .dim → j < e .trial .dim → entries ! (i + e .test .dim * j) ≡ entry i j)
+    → (lists : EntryLists) {entries : List Float} (entry : ℕ → ℕ → Float) → Held (e .test .dim) (e .trial .dim) entries entry
     → writtenAt r e (dofsAt (l .testDofs) (e .test)) (dofsAt (l .trialDofs) (e .trial)) (entryAt entries (e .test .dim)) lists ≡ written r l entry lists
 unfolding part
-values-are r l sized {e} s lists entries entry each =
+values-are r l sized {e} s lists {entries} entry held =
     ap (λ (v : List Float). entryLists (sets (lists .rows) (entryPlace r) (localRows (dofsAt (l .testDofs) (e .test)) (dofsAt (l .trialDofs) (e .trial))))
     (sets (lists .columns) (entryPlace r) (localColumns (dofsAt (l .testDofs) (e .test)) (dofsAt (l .trialDofs) (e .trial))))
-    (sets (lists .values) (entryPlace r) v)) (localValues-ext (entryAt entries (e .test .dim)) entry (e .test .dim) (e .trial .dim) each)
+    (sets (lists .values) (entryPlace r) v)) (localValues-ext (entryAt entries (e .test .dim)) entry (e .test .dim) (e .trial .dim) (held .at))
     ∙ ap (λ (p : Pair). writtenAt r p (dofsAt (l .testDofs) (p .test)) (dofsAt (l .trialDofs) (p .trial)) entry lists) (state-passed r l sized s .1)
 
 -- by what the code has in hand

@@ -4,7 +4,6 @@ use crate::Checked;
 use crate::Pair;
 use crate::Run;
 use crate::calls::cell_dofs;
-use cell_pair_assemblers::LocalMatrix;
 use cell_pair_assemblers::distant_matrix;
 use cell_pair_assemblers::touching_matrix;
 use cell_pairs::DISTANT;
@@ -50,24 +49,23 @@ impl Run {
         test_dofs: &[u32],
         trial_dofs: &[u32],
         e: Pair,
-        local: LocalMatrix,
+        entries: &[f64; 100],
         matrix: &mut [f64],
     )
         requires { ⌜ Standing (runOf self) (now «test_dofs») (now «trial_dofs») e (matrixRight (runOf self) (now matrix)) ⌝ }
-        ensures { λ _. ⌜ now (matrix .exit) ≡ addLocal (entryAt (local .entries) (e .test .dim)) (self .numbers .rows)
+        ensures { λ _. ⌜ now (matrix .exit) ≡ addLocal (entryAt (now (entries .entry)) (e .test .dim)) (self .numbers .rows)
             (dofsAt (now («test_dofs» .entry)) (e .test)) (dofsAt (now («trial_dofs» .entry)) (e .trial)) (now (matrix .entry)) ⌝ }
     {
         let n = self.numbers;
         let rows = cell_dofs(test_dofs, e.test);
         let columns = cell_dofs(trial_dofs, e.trial);
-        let entries = local.entries;
         add_local(
             matrix,
             wide(n.rows),
             wide(n.columns),
             rows,
             columns,
-            &entries,
+            entries,
         );
     }
 
@@ -121,7 +119,9 @@ impl Run {
                 if v != 0 {
                     return Added::Refused(self, v);
                 }
-                let local = touching_matrix(
+                let mut entries = [0.0; 100];
+                touching_matrix(
+                    &mut entries,
                     f,
                     test_dim,
                     trial_dim,
@@ -133,7 +133,7 @@ impl Run {
                     test_geometry,
                     trial_geometry,
                 );
-                self.add_matrix(test_dofs, trial_dofs, e, local, matrix);
+                self.add_matrix(test_dofs, trial_dofs, e, &entries, matrix);
                 Added::Accepted(self.advanced())
             }
         }
@@ -193,7 +193,9 @@ impl Run {
                 if v != 0 {
                     return Added::Refused(self, v);
                 }
-                let local = distant_matrix(
+                let mut entries = [0.0; 100];
+                distant_matrix(
+                    &mut entries,
                     f,
                     test_dim,
                     trial_dim,
@@ -207,7 +209,7 @@ impl Run {
                     test_geometry,
                     trial_geometry,
                 );
-                self.add_matrix(test_dofs, trial_dofs, e, local, matrix);
+                self.add_matrix(test_dofs, trial_dofs, e, &entries, matrix);
                 Added::Accepted(self.advanced())
             }
         }

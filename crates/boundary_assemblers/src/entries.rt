@@ -5,7 +5,6 @@ use crate::Checked;
 use crate::Pair;
 use crate::Run;
 use crate::calls::cell_dofs;
-use cell_pair_assemblers::LocalMatrix;
 use cell_pair_assemblers::touching_matrix;
 use cell_pairs::NO_PATTERN;
 use function::Elements;
@@ -129,7 +128,7 @@ impl Run {
         test_dofs: &[u32],
         trial_dofs: &[u32],
         e: Pair,
-        local: LocalMatrix,
+        entries: &[f64; 100],
         rows: &mut [u32],
         columns: &mut [u32],
         values: &mut [f64],
@@ -138,7 +137,7 @@ impl Run {
         requires { ⌜ Fit (runOf self) e (entryLists (now rows) (now columns) (now values)) ⌝ }
         ensures { λ _. ⌜ entryLists (now (rows .exit)) (now (columns .exit)) (now (values .exit))
             ≡ writtenAt (runOf self) e (dofsAt (now («test_dofs» .entry)) (e .test)) (dofsAt (now («trial_dofs» .entry)) (e .trial))
-            (entryAt (local .entries) (e .test .dim)) (entryLists (now (rows .entry)) (now (columns .entry)) (now (values .entry))) ⌝ }
+            (entryAt (now (entries .entry)) (e .test .dim)) (entryLists (now (rows .entry)) (now (columns .entry)) (now (values .entry))) ⌝ }
     {
         let test = e.test;
         let trial = e.trial;
@@ -148,8 +147,7 @@ impl Run {
         let at = self.entries_to(self.position - n.distant);
         write_rows(rows, at, row_dofs, column_dofs);
         write_columns(columns, at, row_dofs, column_dofs);
-        let entries = local.entries;
-        write_values(values, at, test.dim, trial.dim, &entries);
+        write_values(values, at, test.dim, trial.dim, entries);
     }
 
     // Writes row, column and value of each entry of a touching pair into three lists. Checks 21, 20, 22, 22 by the kinds, 23, then 9 to 11.
@@ -210,7 +208,9 @@ impl Run {
                 if v != 0 {
                     return Added::Refused(self, v);
                 }
-                let local = touching_matrix(
+                let mut entries = [0.0; 100];
+                touching_matrix(
+                    &mut entries,
                     f,
                     test_dim,
                     trial_dim,
@@ -222,7 +222,7 @@ impl Run {
                     test_geometry,
                     trial_geometry,
                 );
-                self.write_entries(test_dofs, trial_dofs, e, local, rows, columns, values);
+                self.write_entries(test_dofs, trial_dofs, e, &entries, rows, columns, values);
                 Added::Accepted(self.advanced())
             }
         }

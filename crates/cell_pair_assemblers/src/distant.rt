@@ -1,5 +1,4 @@
 // The local matrix of a distant pair, for one term: value·(trial weight·trial jdet)·(test weight·test jdet).
-use crate::LocalMatrix;
 use integrands::Geometry;
 use integrands::Integrand;
 use point_sums::add_curls;
@@ -7,11 +6,11 @@ use point_sums::add_outer_at;
 ghost use mathlib.Core.Path.{_≡_};
 ghost use Prim.Native.Nat.{ℕ, _+_, _*_, _<_, _≤_};
 ghost use Rattle.integrands.specs.Columns.{Held, Added};
-ghost use lib.ListN.{length};
-ghost use Rattle.numbers.specs.Floats.{_⊗_, _!_};
+ghost use lib.ListN.{length, replicate};
+ghost use Rattle.numbers.specs.Floats.{0·0, _⊗_, _!_};
 ghost use Rattle.integrands.specs.Values.{geometryAt};
 ghost use Rattle.lent_numbers.specs.Lent.{distant, DistantFits};
-ghost use Rattle.cell_pair_assemblers.specs.Matrices.{DistantEntries};
+ghost use Rattle.lent_numbers.specs.Entries.{distantEntry};
 ghost use Rattle.cell_pair_assemblers.specs.Facts.{Alone, Reaches, summandAt, distantRows};
 
 // What test point t and trial point r add to each entry, for a term without curls. v is test weight·test jdet.
@@ -360,6 +359,7 @@ fn row_at(
 
 // The local matrix: test point after test point.
 pub fn one_distant(
+    entries: &mut [f64; 100],
     f: Integrand,
     test_dim: usize,
     trial_dim: usize,
@@ -372,18 +372,17 @@ pub fn one_distant(
     kernel: &[f64],
     test_geometry: &[f64],
     trial_geometry: &[f64],
-) -> LocalMatrix
-    requires { ⌜ (f .terms ≡ 1) × DistantFits f «test_dim» «trial_dim» (distant «test_points» «trial_points» (now «test_weights») (now «trial_weights») (now «test_table») (now «trial_table») (now «kernel») (now «test_geometry») (now «trial_geometry»)) ⌝ }
-    ensures { λ r. ⌜ DistantEntries f «test_dim» «trial_dim» (distant «test_points» «trial_points» (now («test_weights» .entry)) (now («trial_weights» .entry)) (now («test_table» .entry)) (now («trial_table» .entry)) (now («kernel» .entry)) (now («test_geometry» .entry)) (now («trial_geometry» .entry))) r ⌝ }
+)
+    requires { ⌜ (f .terms ≡ 1) × DistantFits f «test_dim» «trial_dim» (distant «test_points» «trial_points» (now «test_weights») (now «trial_weights») (now «test_table») (now «trial_table») (now «kernel») (now «test_geometry») (now «trial_geometry»)) × (now entries ≡ replicate 100 0·0) ⌝ }
+    ensures { λ _. ⌜ Held «test_dim» «trial_dim» (now (entries .exit)) (distantEntry f (distant «test_points» «trial_points» (now («test_weights» .entry)) (now («trial_weights» .entry)) (now («test_table» .entry)) (now («trial_table» .entry)) (now («kernel» .entry)) (now («test_geometry» .entry)) (now («trial_geometry» .entry)))) ⌝ }
 {
     let rows = integrands::table_rows(f);
     let width = integrands::kernel_width(f);
-    let mut entries = [0.0; 100];
     for t in 0..test_points {
         let test = integrands::geometry_at(test_geometry, t);
         let v = test_weights[t] * test.jdet;
         row_at(
-            &mut entries,
+            entries,
             f,
             width,
             rows,
@@ -402,10 +401,5 @@ pub fn one_distant(
             test_geometry,
             trial_geometry,
         );
-    }
-    LocalMatrix {
-        entries: entries,
-        test_dim: test_dim,
-        trial_dim: trial_dim,
     }
 }

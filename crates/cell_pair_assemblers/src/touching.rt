@@ -1,13 +1,14 @@
 // The local matrix of a touching pair, for one term: value·(weight·(test jdet·trial jdet)), which is weighed once.
-use crate::LocalMatrix;
 use integrands::Integrand;
 use point_sums::add_curls;
 use point_sums::add_outer;
 ghost use mathlib.Core.Path.{_≡_};
 ghost use Prim.Native.Nat.{ℕ, _+_, _<_};
+ghost use lib.ListN.{replicate};
+ghost use Rattle.numbers.specs.Floats.{0·0};
 ghost use Rattle.integrands.specs.Columns.{Held};
 ghost use Rattle.lent_numbers.specs.Lent.{touching, TouchingFits};
-ghost use Rattle.cell_pair_assemblers.specs.Matrices.{TouchingEntries};
+ghost use Rattle.lent_numbers.specs.Entries.{touchingEntry};
 ghost use Rattle.cell_pair_assemblers.specs.Facts.{Alone, touchingSum};
 
 // What point q adds to each entry, for a term without curls.
@@ -123,6 +124,7 @@ fn touching_curls(
 
 // The local matrix: point after point. With one term, three table rows mean that its value has curls.
 pub fn one_touching(
+    entries: &mut [f64; 100],
     f: Integrand,
     test_dim: usize,
     trial_dim: usize,
@@ -133,17 +135,16 @@ pub fn one_touching(
     kernel: &[f64],
     test_geometry: &[f64],
     trial_geometry: &[f64],
-) -> LocalMatrix
-    requires { ⌜ (f .terms ≡ 1) × TouchingFits f «test_dim» «trial_dim» (touching «points» (now «weights») (now «test_table») (now «trial_table») (now «kernel») (now «test_geometry») (now «trial_geometry»)) ⌝ }
-    ensures { λ r. ⌜ TouchingEntries f «test_dim» «trial_dim» (touching «points» (now («weights» .entry)) (now («test_table» .entry)) (now («trial_table» .entry)) (now («kernel» .entry)) (now («test_geometry» .entry)) (now («trial_geometry» .entry))) r ⌝ }
+)
+    requires { ⌜ (f .terms ≡ 1) × TouchingFits f «test_dim» «trial_dim» (touching «points» (now «weights») (now «test_table») (now «trial_table») (now «kernel») (now «test_geometry») (now «trial_geometry»)) × (now entries ≡ replicate 100 0·0) ⌝ }
+    ensures { λ _. ⌜ Held «test_dim» «trial_dim» (now (entries .exit)) (touchingEntry f (touching «points» (now («weights» .entry)) (now («test_table» .entry)) (now («trial_table» .entry)) (now («kernel» .entry)) (now («test_geometry» .entry)) (now («trial_geometry» .entry)))) ⌝ }
 {
     let rows = integrands::table_rows(f);
     let width = integrands::kernel_width(f);
-    let mut entries = [0.0; 100];
     for q in 0..points {
         if rows == 3 {
             touching_curls(
-                &mut entries,
+                entries,
                 f,
                 width,
                 rows,
@@ -160,7 +161,7 @@ pub fn one_touching(
             );
         } else {
             touching_outer(
-                &mut entries,
+                entries,
                 f,
                 width,
                 rows,
@@ -176,10 +177,5 @@ pub fn one_touching(
                 trial_geometry,
             );
         }
-    }
-    LocalMatrix {
-        entries: entries,
-        test_dim: test_dim,
-        trial_dim: trial_dim,
     }
 }

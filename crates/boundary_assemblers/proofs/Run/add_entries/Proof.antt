@@ -1,6 +1,6 @@
 -- `boundary_assemblers::Run::add_entries` meets its contract: a refusal is answered as such, and nothing is written; where there is none, the entries are written. Assumes nothing.
 use native.Mathlib.Omega.{arith}
-use mathlib.Core.Path.{sym, _∙_}
+use mathlib.Core.Path.{refl, sym, _∙_}
 use borrow.Author.Tests.{not-false}
 use Rattle.lists.specs.Bool.{_and_, and-right, turned, passed}
 use Rattle.lists.specs.Refusals.{refusal-fails, refusal-passes}
@@ -80,16 +80,16 @@ returns-3 c =
     by-rest _ _ _ (entriesBehind (runOf (start .args .self)) (touching (start .args .points) (start .args .weights .now) (start .args .test-table .now) (start .args .trial-table .now) (start .args .kernel .now) (start .args .test-geometry .now) (start .args .trial-geometry .now))) _ _ (sized-same _ _ _ (sym (c .before .before .before .before .before .before .before .before .before .before .before .before .before .e .given .1) ∙ rw (c .before .before .before .before .before .before .before .before .before .before .before .before .before .before .before .before .entries-right .ensures) at (c .before .before .before .before .before .before .before .before .before .before .before .before .before .before .before .state-checked .ensures))) _ (check-passes 23 _ _ (c .before .before .before .before .before .before .if2 .left) (c .before .touching-refusal .ensures) ∙ sym (refusal-passes 22 _ _ (passed (c .before .before .before .before .before .before .before .before .before .before .before .kinds-put .ensures) (c .before .before .before .before .before .before .before .before .before .before .if1 .left)))) (c .if3 .taken)
 
 touching-matrix-requires : tie.Need-touching-matrix-requires
-touching-matrix-requires c κs = let h = standing _ _ _ (sized-same _ _ _ (sym (c .before .before .before .before .before .before .before .before .before .before .before .before .before .e .given .1) ∙ rw (c .before .before .before .before .before .before .before .before .before .before .before .before .before .before .before .before .entries-right .ensures) at (c .before .before .before .before .before .before .before .before .before .before .before .before .before .before .before .state-checked .ensures))) in touching-fits _ _ _ _ (h .ranges .integrand) (h .test .few) (h .trial .few) (sym (c .before .touching-refusal .ensures) ∙ c .if3 .left)
+touching-matrix-requires c κs = let h = standing _ _ _ (sized-same _ _ _ (sym (c .before .before .before .before .before .before .before .before .before .before .before .before .before .before .e .given .1) ∙ rw (c .before .before .before .before .before .before .before .before .before .before .before .before .before .before .before .before .before .entries-right .ensures) at (c .before .before .before .before .before .before .before .before .before .before .before .before .before .before .before .before .state-checked .ensures))) in (touching-fits _ _ _ _ (h .ranges .integrand) (h .test .few) (h .trial .few) (sym (c .before .before .touching-refusal .ensures) ∙ c .before .if3 .left), refl)
 
 write-entries-requires : tie.Need-write-entries-requires
 unfolding _and_
 write-entries-requires c κs =
-    let s = (sized-same _ _ _ (sym (c .before .before .before .before .before .before .before .before .before .before .before .before .before .before .before .before .before .e .given .1) ∙ rw (c .before .before .before .before .before .before .before .before .before .before .before .before .before .before .before .before .before .before .before .before .entries-right .ensures) at (c .before .before .before .before .before .before .before .before .before .before .before .before .before .before .before .before .before .before .before .state-checked .ensures))) in
-    (standing _ _ _ s, fit _ _ _ s (and-right (isTouching (c .before .before .before .before .before .before .before .before .before .before .before .before .before .before .before .before .before .e .given .0 .0 .item .pattern)) _ (not-false _ (c .before .before .before .before .before .before .before .before .before .before .if2 .left))) (passed (c .before .before .before .before .before .before .before .before .before .before .before .before .before .before .before .kinds-put .ensures) (c .before .before .before .before .before .before .before .before .before .before .before .before .before .before .if1 .left)))
+    let s = (sized-same _ _ _ (sym (c .before .before .before .before .before .before .before .before .before .before .before .before .before .before .before .before .before .before .before .e .given .1) ∙ rw (c .before .before .before .before .before .before .before .before .before .before .before .before .before .before .before .before .before .before .before .before .before .before .entries-right .ensures) at (c .before .before .before .before .before .before .before .before .before .before .before .before .before .before .before .before .before .before .before .before .before .state-checked .ensures))) in
+    (standing _ _ _ s, fit _ _ _ s (and-right (isTouching (c .before .before .before .before .before .before .before .before .before .before .before .before .before .before .before .before .before .before .before .e .given .0 .0 .item .pattern)) _ (not-false _ (c .before .before .before .before .before .before .before .before .before .before .before .before .if2 .left))) (passed (c .before .before .before .before .before .before .before .before .before .before .before .before .before .before .before .before .before .kinds-put .ensures) (c .before .before .before .before .before .before .before .before .before .before .before .before .before .before .before .before .if1 .left)))
 
 advanced-requires : tie.Need-advanced-requires
-advanced-requires c κs = let h = standing _ _ _ (sized-same _ _ _ (sym (c .before .before .before .before .before .before .before .before .before .before .before .before .before .before .before .before .before .before .before .before .before .before .before .before .e .given .1) ∙ rw (c .before .before .before .before .before .before .before .before .before .before .before .before .before .before .before .before .before .before .before .before .before .before .before .before .before .before .before .entries-right .ensures) at (c .before .before .before .before .before .before .before .before .before .before .before .before .before .before .before .before .before .before .before .before .before .before .before .before .before .before .state-checked .ensures))) in omega (arith, h .below, h .ranges .all-pairs)
+advanced-requires c κs = let h = standing _ _ _ (sized-same _ _ _ (sym (c .before .before .before .before .before .before .before .before .before .before .before .before .before .before .before .before .before .before .before .before .before .before .before .before .before .before .e .given .1) ∙ rw (c .before .before .before .before .before .before .before .before .before .before .before .before .before .before .before .before .before .before .before .before .before .before .before .before .before .before .before .before .before .entries-right .ensures) at (c .before .before .before .before .before .before .before .before .before .before .before .before .before .before .before .before .before .before .before .before .before .before .before .before .before .before .before .before .state-checked .ensures))) in omega (arith, h .below, h .ranges .all-pairs)
 
 same-length-10 : tie.Need-same-length-10
 same-length-10 c = search needs
@@ -118,10 +118,10 @@ same-length-15 c = search needs
 returns-5 : tie.Need-returns-5
 unfolding addEntries entriesWritten entriesRefusal kindsPut _and_
 returns-5 c =
-    let start = c .before .before .before .before .before .before .before .before .before .before .before .before .before .before .before .before .before .before .before .before .before .before .before .before .before .before .before .before .before .before .before .before .before .before .before .before .before .before .before .before .before .before .before .before .before in
-    let s = (sized-same _ _ _ (sym (c .before .before .before .before .before .before .before .before .before .before .before .before .before .before .before .before .before .before .before .before .before .before .before .before .before .e .given .1) ∙ rw (c .before .before .before .before .before .before .before .before .before .before .before .before .before .before .before .before .before .before .before .before .before .before .before .before .before .before .before .before .entries-right .ensures) at (c .before .before .before .before .before .before .before .before .before .before .before .before .before .before .before .before .before .before .before .before .before .before .before .before .before .before .before .state-checked .ensures))) in
-    by-none _ _ _ (entriesBehind (runOf (start .args .self)) (touching (start .args .points) (start .args .weights .now) (start .args .test-table .now) (start .args .trial-table .now) (start .args .kernel .now) (start .args .test-geometry .now) (start .args .trial-geometry .now))) _ _ s _ (check-passes 23 _ _ (c .before .before .before .before .before .before .before .before .before .before .before .before .before .before .before .before .before .before .if2 .left) (c .before .before .before .before .before .before .before .before .before .before .before .before .before .touching-refusal .ensures) ∙ sym (refusal-passes 22 _ _ (passed (c .before .before .before .before .before .before .before .before .before .before .before .before .before .before .before .before .before .before .before .before .before .before .before .kinds-put .ensures) (c .before .before .before .before .before .before .before .before .before .before .before .before .before .before .before .before .before .before .before .before .before .before .if1 .left)))) (c .before .before .before .before .before .before .before .before .before .before .before .before .if3 .left) (c .advanced .ensures)
-    (c .before .before .before .before .before .before .before .write-entries .ensures ∙ values-are _ _ _ s _ (c .before .before .before .before .before .before .before .before .before .before .before .touching-matrix .result .entries) (touchingEntry _ _) (c .before .before .before .before .before .before .before .before .before .before .before .touching-matrix .ensures .entries))
+    let start = c .before .before .before .before .before .before .before .before .before .before .before .before .before .before .before .before .before .before .before .before .before .before .before .before .before .before .before .before .before .before .before .before .before .before .before .before .before .before .before .before .before .before .before .before .before .before .before in
+    let s = (sized-same _ _ _ (sym (c .before .before .before .before .before .before .before .before .before .before .before .before .before .before .before .before .before .before .before .before .before .before .before .before .before .before .before .e .given .1) ∙ rw (c .before .before .before .before .before .before .before .before .before .before .before .before .before .before .before .before .before .before .before .before .before .before .before .before .before .before .before .before .before .before .entries-right .ensures) at (c .before .before .before .before .before .before .before .before .before .before .before .before .before .before .before .before .before .before .before .before .before .before .before .before .before .before .before .before .before .state-checked .ensures))) in
+    by-none _ _ _ (entriesBehind (runOf (start .args .self)) (touching (start .args .points) (start .args .weights .now) (start .args .test-table .now) (start .args .trial-table .now) (start .args .kernel .now) (start .args .test-geometry .now) (start .args .trial-geometry .now))) _ _ s _ (check-passes 23 _ _ (c .before .before .before .before .before .before .before .before .before .before .before .before .before .before .before .before .before .before .before .before .if2 .left) (c .before .before .before .before .before .before .before .before .before .before .before .before .before .before .before .touching-refusal .ensures) ∙ sym (refusal-passes 22 _ _ (passed (c .before .before .before .before .before .before .before .before .before .before .before .before .before .before .before .before .before .before .before .before .before .before .before .before .before .kinds-put .ensures) (c .before .before .before .before .before .before .before .before .before .before .before .before .before .before .before .before .before .before .before .before .before .before .before .before .if1 .left)))) (c .before .before .before .before .before .before .before .before .before .before .before .before .before .before .if3 .left) (c .advanced .ensures)
+    (c .before .before .before .before .before .before .before .write-entries .ensures ∙ values-are _ _ _ s _ (touchingEntry _ _) (c .before .before .before .before .before .before .before .before .before .before .before .before .touching-matrix .ensures))
 
 pub add-entries-spec : {M : Type 1} → statement M
 add-entries-spec =

@@ -17,16 +17,16 @@ wide-requires-2 : tie.Need-wide-requires-2
 wide-requires-2 c κs = search needs
 
 add-local-requires : tie.Need-add-local-requires
-add-local-requires c κs = rw (c .before .wide2 .ensures, c .before .before .wide .ensures, c .before .before .before .before .before .cell-dofs2 .ensures, c .before .before .before .before .before .before .cell-dofs .ensures) (add-fits (c .before .before .before .before .before .before .before .before .before .before .before .pre))
+add-local-requires c κs = rw (c .wide2 .ensures, c .before .wide .ensures, c .before .before .before .cell-dofs2 .ensures, c .before .before .before .before .cell-dofs .ensures) (add-fits (c .before .before .before .before .before .before .before .before .before .pre))
 
 same-length : tie.Need-same-length
 same-length c = search needs
 
 returns : tie.Need-returns
 returns c =
-    let start = c .before .before .before .before .before .before .before .before .before .before .before .before .before .before in
-    by-dim (start .pre) (start .args .matrix .now) (start .args .local .entries)
-    (rw (c .before .before .before .before .before .wide .ensures, c .before .before .before .before .before .before .before .before .cell-dofs2 .ensures, c .before .before .before .before .before .before .before .before .before .cell-dofs .ensures) at (c .before .before .add-local .ensures))
+    let start = c .before .before .before .before .before .before .before .before .before .before .before .before in
+    by-dim (start .pre) (start .args .matrix .now) (start .args .entries .now)
+    (rw (c .before .before .before .before .wide .ensures, c .before .before .before .before .before .before .cell-dofs2 .ensures, c .before .before .before .before .before .before .before .cell-dofs .ensures) at (c .before .before .add-local .ensures))
 
 pub add-matrix-spec : {M : Type 1} → statement M
 add-matrix-spec =

@@ -1,6 +1,6 @@
 -- `boundary_assemblers::Run::add_touching` meets its contract: a refusal is answered as such, and nothing is written; where there is none, the local matrix is added. Assumes nothing.
 use native.Mathlib.Omega.{arith}
-use mathlib.Core.Path.{sym, _∙_}
+use mathlib.Core.Path.{refl, sym, _∙_}
 use Rattle.lists.specs.Bool.{_and_}
 use Rattle.lent_numbers.specs.Lent.{touching}
 use Rattle.lent_numbers.specs.Entries.{touchingEntry}
@@ -47,13 +47,13 @@ returns-2 c =
     by-rest _ _ _ (touchingBehind (runOf (start .args .self)) (touching (start .args .points) (start .args .weights .now) (start .args .test-table .now) (start .args .trial-table .now) (start .args .kernel .now) (start .args .test-geometry .now) (start .args .trial-geometry .now))) _ _ (sym (c .before .before .before .before .before .before .before .before .before .before .before .e .given .1) ∙ rw (c .before .before .before .before .before .before .before .before .before .before .before .before .before .before .matrix-right .ensures) at (c .before .before .before .before .before .before .before .before .before .before .before .before .before .state-checked .ensures)) _ (check-passes 23 _ _ (c .before .before .before .before .before .before .if1 .left) (c .before .touching-refusal .ensures)) (c .if2 .taken)
 
 touching-matrix-requires : tie.Need-touching-matrix-requires
-touching-matrix-requires c κs = let h = standing _ _ _ (sym (c .before .before .before .before .before .before .before .before .before .before .before .e .given .1) ∙ rw (c .before .before .before .before .before .before .before .before .before .before .before .before .before .before .matrix-right .ensures) at (c .before .before .before .before .before .before .before .before .before .before .before .before .before .state-checked .ensures)) in touching-fits _ _ _ _ (h .ranges .integrand) (h .test .few) (h .trial .few) (sym (c .before .touching-refusal .ensures) ∙ c .if2 .left)
+touching-matrix-requires c κs = let h = standing _ _ _ (sym (c .before .before .before .before .before .before .before .before .before .before .before .before .e .given .1) ∙ rw (c .before .before .before .before .before .before .before .before .before .before .before .before .before .before .before .matrix-right .ensures) at (c .before .before .before .before .before .before .before .before .before .before .before .before .before .before .state-checked .ensures)) in (touching-fits _ _ _ _ (h .ranges .integrand) (h .test .few) (h .trial .few) (sym (c .before .before .touching-refusal .ensures) ∙ c .before .if2 .left), refl)
 
 add-matrix-requires : tie.Need-add-matrix-requires
-add-matrix-requires c κs = standing _ _ _ (sym (c .before .before .before .before .before .before .before .before .before .before .before .before .before .e .given .1) ∙ rw (c .before .before .before .before .before .before .before .before .before .before .before .before .before .before .before .before .matrix-right .ensures) at (c .before .before .before .before .before .before .before .before .before .before .before .before .before .before .before .state-checked .ensures))
+add-matrix-requires c κs = standing _ _ _ (sym (c .before .before .before .before .before .before .before .before .before .before .before .before .before .before .before .e .given .1) ∙ rw (c .before .before .before .before .before .before .before .before .before .before .before .before .before .before .before .before .before .before .matrix-right .ensures) at (c .before .before .before .before .before .before .before .before .before .before .before .before .before .before .before .before .before .state-checked .ensures))
 
 advanced-requires : tie.Need-advanced-requires
-advanced-requires c κs = let h = standing _ _ _ (sym (c .before .before .before .before .before .before .before .before .before .before .before .before .before .before .before .before .e .given .1) ∙ rw (c .before .before .before .before .before .before .before .before .before .before .before .before .before .before .before .before .before .before .before .matrix-right .ensures) at (c .before .before .before .before .before .before .before .before .before .before .before .before .before .before .before .before .before .before .state-checked .ensures)) in omega (arith, h .below, h .ranges .all-pairs)
+advanced-requires c κs = let h = standing _ _ _ (sym (c .before .before .before .before .before .before .before .before .before .before .before .before .before .before .before .before .before .before .e .given .1) ∙ rw (c .before .before .before .before .before .before .before .before .before .before .before .before .before .before .before .before .before .before .before .before .before .matrix-right .ensures) at (c .before .before .before .before .before .before .before .before .before .before .before .before .before .before .before .before .before .before .before .before .state-checked .ensures)) in omega (arith, h .below, h .ranges .all-pairs)
 
 same-length-3 : tie.Need-same-length-3
 same-length-3 c = search needs
@@ -70,10 +70,10 @@ same-length-4 c = search needs
 returns-4 : tie.Need-returns-4
 unfolding addTouching touchingMatrix touchingRefusal _and_
 returns-4 c =
-    let start = c .before .before .before .before .before .before .before .before .before .before .before .before .before .before .before .before .before .before .before .before .before .before .before .before .before .before .before .before .before .before .before .before .before in
-    let s = (sym (c .before .before .before .before .before .before .before .before .before .before .before .before .before .before .before .before .before .e .given .1) ∙ rw (c .before .before .before .before .before .before .before .before .before .before .before .before .before .before .before .before .before .before .before .before .matrix-right .ensures) at (c .before .before .before .before .before .before .before .before .before .before .before .before .before .before .before .before .before .before .before .state-checked .ensures)) in
-    by-none _ _ _ (touchingBehind (runOf (start .args .self)) (touching (start .args .points) (start .args .weights .now) (start .args .test-table .now) (start .args .trial-table .now) (start .args .kernel .now) (start .args .test-geometry .now) (start .args .trial-geometry .now))) _ _ s _ (check-passes 23 _ _ (c .before .before .before .before .before .before .before .before .before .before .before .before .if1 .left) (c .before .before .before .before .before .before .before .touching-refusal .ensures)) (c .before .before .before .before .before .before .if2 .left) (c .advanced .ensures)
-    (sum-is _ _ _ s _ (c .before .before .before .before .before .touching-matrix .result .entries) (touchingEntry _ _) (c .before .before .before .before .before .touching-matrix .ensures .entries) (c .before .before .before .add-matrix .ensures))
+    let start = c .before .before .before .before .before .before .before .before .before .before .before .before .before .before .before .before .before .before .before .before .before .before .before .before .before .before .before .before .before .before .before .before .before .before .before in
+    let s = (sym (c .before .before .before .before .before .before .before .before .before .before .before .before .before .before .before .before .before .before .before .e .given .1) ∙ rw (c .before .before .before .before .before .before .before .before .before .before .before .before .before .before .before .before .before .before .before .before .before .before .matrix-right .ensures) at (c .before .before .before .before .before .before .before .before .before .before .before .before .before .before .before .before .before .before .before .before .before .state-checked .ensures)) in
+    by-none _ _ _ (touchingBehind (runOf (start .args .self)) (touching (start .args .points) (start .args .weights .now) (start .args .test-table .now) (start .args .trial-table .now) (start .args .kernel .now) (start .args .test-geometry .now) (start .args .trial-geometry .now))) _ _ s _ (check-passes 23 _ _ (c .before .before .before .before .before .before .before .before .before .before .before .before .before .before .if1 .left) (c .before .before .before .before .before .before .before .before .before .touching-refusal .ensures)) (c .before .before .before .before .before .before .before .before .if2 .left) (c .advanced .ensures)
+    (sum-is _ _ _ s _ (touchingEntry _ _) (c .before .before .before .before .before .before .touching-matrix .ensures) (c .before .before .before .add-matrix .ensures))
 
 pub add-touching-spec : {M : Type 1} → statement M
 add-touching-spec =

@@ -1,5 +1,4 @@
 -- `boundary_assemblers::Run::write_entries` meets its contract: the DOFs of the record's cells lie within the DOF lists, and the entry lists have room. Assumes nothing.
-use native.Mathlib.Omega.{arith}
 use Rattle.boundary_assemblers.specs.AddFacts.{dofs-long}
 use Rattle.boundary_assemblers.specs.EntryFacts.{written-is}
 use Rattle.boundary_assemblers.specs.Forms.{runOf}
@@ -32,8 +31,8 @@ write-columns-requires c κs =
 
 write-values-requires : tie.Need-write-values-requires
 write-values-requires c κs =
-    let start = c .before .before .before .before .before .before .before .before .before .before .before .before .before .before .before .before .before .before .before .before .before .before .before .before in
-    rw (c .before .before .before .before .before .before .before .before .before .before .before .entries-to .ensures) (start .pre .1 .values, start .pre .0 .test .few, start .pre .0 .trial .few)
+    let start = c .before .before .before .before .before .before .before .before .before .before .before .before .before .before .before .before .before .before .before .before .before .before in
+    rw (c .before .before .before .before .before .before .before .before .before .entries-to .ensures) (start .pre .1 .values, start .pre .0 .test .few, start .pre .0 .trial .few)
 
 same-length : tie.Need-same-length
 same-length c = search needs
@@ -46,9 +45,9 @@ same-length-3 c = search needs
 
 returns : tie.Need-returns
 returns c =
-    let start = c .before .before .before .before .before .before .before .before .before .before .before .before .before .before .before .before .before .before .before .before .before .before .before .before .before .before .before in
-    written-is (runOf (start .args .self)) (start .args .e) _ (start .args .local .entries) (c .before .before .before .before .before .before .before .before .before .before .before .before .before .before .entries-to .ensures) (c .before .before .before .before .before .before .before .before .before .before .before .before .before .before .before .before .before .before .before .cell-dofs .ensures) (c .before .before .before .before .before .before .before .before .before .before .before .before .before .before .before .before .before .before .cell-dofs2 .ensures)
-    (c .before .before .before .before .before .before .before .before .before .before .before .before .write-rows .ensures) (c .before .before .before .before .before .before .before .before .write-columns .ensures) (c .before .before .write-values .ensures)
+    let start = c .before .before .before .before .before .before .before .before .before .before .before .before .before .before .before .before .before .before .before .before .before .before .before .before .before in
+    written-is (runOf (start .args .self)) (start .args .e) _ (start .args .entries .now) (c .before .before .before .before .before .before .before .before .before .before .before .before .entries-to .ensures) (c .before .before .before .before .before .before .before .before .before .before .before .before .before .before .before .before .before .cell-dofs .ensures) (c .before .before .before .before .before .before .before .before .before .before .before .before .before .before .before .before .cell-dofs2 .ensures)
+    (c .before .before .before .before .before .before .before .before .before .before .write-rows .ensures) (c .before .before .before .before .before .before .write-columns .ensures) (c .before .before .write-values .ensures)
 
 pub write-entries-spec : {M : Type 1} → statement M
 write-entries-spec =

@@ -1,9 +1,9 @@
 -- `cell_pair_assemblers::touching::one_touching` meets its contract: the invariant is that the entries hold the sums of the points passed. Assumes nothing.
 use mathlib.Core.Logic.{⊎-elim}
-use mathlib.Core.Path.{_≡_, refl, _∙_}
+use mathlib.Core.Path.{_≡_}
 use Prim.Native.Nat.{ℕ, _-_, _≤_}
 use native.Mathlib.Omega.{arith}
-use Rattle.integrands.specs.Columns.{Held}
+use Rattle.integrands.specs.Columns.{Held, held-as}
 use Rattle.lent_numbers.specs.Lent.{touching}
 use Rattle.cell_pair_assemblers.specs.Facts.{touchingSum, touching-end, touching-begin}
 use borrow.Author.Needs.{needs}
@@ -11,12 +11,12 @@ use Rattle.cell_pair_assemblers.proofs.touching.one_touching.Statement.
 use Rattle.cell_pair_assemblers.proofs.touching.one_touching.Tie as tie
 
 abbrev Inv-loop : tie.InvT-loop
-Inv-loop f test-dim trial-dim points weights test-table trial-table kernel test-geometry trial-geometry rows width entries₀ q₀ entries q =
+Inv-loop entries₀ f test-dim trial-dim points weights test-table trial-table kernel test-geometry trial-geometry rows width q₀ entries q =
     (q ≤ points)
     × Held test-dim trial-dim entries (λ (i j : ℕ). touchingSum f (touching points weights test-table trial-table kernel test-geometry trial-geometry) i j q)
 
 abbrev μ-loop : tie.MeasureT-loop
-μ-loop f test-dim trial-dim points weights test-table trial-table kernel test-geometry trial-geometry rows width entries₀ q₀ entries q = points - q
+μ-loop entries₀ f test-dim trial-dim points weights test-table trial-table kernel test-geometry trial-geometry rows width q₀ entries q = points - q
 
 table-rows-requires : tie.Need-table-rows-requires Inv-loop μ-loop
 table-rows-requires c κs = search needs
@@ -27,7 +27,7 @@ kernel-width-requires c κs = search needs
 loop-holds : tie.Need-loop-holds Inv-loop μ-loop
 loop-holds c =
     let start = c .before .before .before .before .before .before .before .before in
-    (search needs, touching-begin (start .args .f) (touching (start .args .points) (start .args .weights .now) (start .args .test-table .now) (start .args .trial-table .now) (start .args .kernel .now) (start .args .test-geometry .now) (start .args .trial-geometry .now)) (start .pre .1 .testFew) (start .pre .1 .trialFew))
+    (search needs, rw (start .pre .2) (touching-begin (start .args .f) (touching (start .args .points) (start .args .weights .now) (start .args .test-table .now) (start .args .trial-table .now) (start .args .kernel .now) (start .args .test-geometry .now) (start .args .trial-geometry .now)) (start .pre .1 .testFew) (start .pre .1 .trialFew)))
 
 touching-curls-requires : tie.Need-touching-curls-requires Inv-loop μ-loop
 touching-curls-requires c κs =
@@ -53,7 +53,7 @@ returns c =
     let start = c .before .before .before .before .before .before .before .before .before .before in
     let end : c .before .loop .q ≡ start .args .points = omega arith in
     let held = rw end at (c .before .loop .inv .1) in
-    record { testDim = refl; trialDim = refl; entries = λ i j l b. held .at i j l b ∙ touching-end (start .args .f) (touching (start .args .points) (start .args .weights .now) (start .args .test-table .now) (start .args .trial-table .now) (start .args .kernel .now) (start .args .test-geometry .now) (start .args .trial-geometry .now)) i j }
+    held-as held (λ i j l b. touching-end (start .args .f) (touching (start .args .points) (start .args .weights .now) (start .args .test-table .now) (start .args .trial-table .now) (start .args .kernel .now) (start .args .test-geometry .now) (start .args .trial-geometry .now)) i j)
 
 pub one-touching-spec : {M : Type 1} → statement M
 one-touching-spec =
