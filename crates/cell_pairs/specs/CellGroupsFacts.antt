@@ -3,17 +3,17 @@
 use Prim.Native.Nat.{ℕ, zero, suc, _<_}
 use native.Mathlib.Nat.{not-suc-le-zero, le-of-suc-le-suc}
 use native.Mathlib.Omega.{arith}
-use mathlib.Core.Path.{_≡_, refl, sym, ap, subst, _∙_}
+use mathlib.Core.Path.{_≡_, refl, sym, subst, _∙_}
 use mathlib.Core.Bool.{Bool, true, false}
 use mathlib.Core.List.{List, [], _∷_, flatMap}
-use lib.ListN.{length, getD, getD-replicate}
+use lib.ListN.{length, getD}
 use lib.Dec.{eqb}
-use borrow.Author.Tests.{eqb-true, eq-eqb}
+use borrow.Author.Tests.{eqb-true}
 use Rattle.lists.specs.Bool.{_and_, true≢false, and-left}
-use Rattle.lists.specs.Range.{range, when, filter, flatMap-ext, flatMap-nil, flatMap-below, flatMap-filter}
+use Rattle.lists.specs.Range.{range, filter, flatMap-ext, flatMap-nil, flatMap-below, flatMap-filter}
 use Rattle.lists.specs.Total.{total, gate, total-filter, total-ext, total-below, total-swap, total-inward, gate-and, pick}
 use Rattle.grid.specs.Cells.{has}
-use Rattle.grid.specs.Mesh.{Mesh, triangles, kind, kindsPresent, corners}
+use Rattle.grid.specs.Mesh.{Mesh, kind, kindsPresent, corners}
 use Rattle.grid.specs.KindsFacts.{Kinded, kind-present, kind-once}
 use Rattle.function.specs.Colours.{colourCount}
 use Rattle.cell_pairs.specs.Patterns.{pairPattern, pairVertex}
@@ -51,13 +51,6 @@ total-coloured g m cs h e =
     one-kind c i l =
         total-ext _ _ (λ n. gate-and (eqb (kind m i) n) (eqb (getD cs i 0) c) (g i)) (kindsPresent (m .kinds))
         ∙ kind-once (m .kinds) (kind m i) (gate (eqb (getD cs i 0) c) (g i)) (h .each i l) (kind-present (m .kinds) (kind m i) i (omega (arith, h .long)) refl)
-
--- of triangles, the cells of kind 3 and a colour are those of the colour
-pub coloured-triangles : (m : Mesh) → m .kinds ≡ triangles (m .cells) → (cs : List ℕ) (c : ℕ) → coloured m cs 3 c ≡ filter (λ i. eqb (getD cs i 0) c) (range (m .cells))
-unfolding coloured filter _and_
-coloured-triangles m e cs c =
-    flatMap-below _ _ (m .cells)
-    (λ i l. ap (λ (b : Bool). when (b and eqb (getD cs i 0) c) (i ∷ [])) (eq-eqb _ 3 (ap (λ (ks : List ℕ). getD ks i 0) e ∙ getD-replicate (m .cells) i 3 0 l)))
 
 -- ---- touching pairs, by vertex
 

@@ -195,10 +195,6 @@ quadQuad =
 unfoldable pub table : List Pattern
 table = triangleTriangle ++ triangleQuad ++ quadTriangle ++ quadQuad
 
--- how many there are; as a number it is that of no pattern
-abbrev pub tableCount : ℕ
-tableCount = patternCount
-
 -- the pattern at place k of the table; past the last there is none
 abbrev pub patternAt : ℕ → Pattern
 patternAt k = getD table k (pattern 0 0 [])
@@ -256,7 +252,7 @@ edgeJoining n a b = least n (λ e. sameTwo (endsOf n e .first) (endsOf n e .seco
 -- edge e and trial edge g: nk + 2(ke + g), plus 1 if the first trial vertex matches the second test vertex. Of more: 3nk, after the edges. Of none: past
 -- every block
 unfoldable pub inBlock : ℕ → ℕ → List Match → ℕ
-inBlock n k [] = tableCount
+inBlock n k [] = patternCount
 inBlock n k (m ∷ []) = k * m .test + m .trial
 inBlock n k (m ∷ o ∷ []) =
     let e = edgeJoining n (m .test) (o .test) in

@@ -12,18 +12,19 @@ use Rattle.lists.specs.Bool.{_and_, _or_, true≢false, cases, and-left, and-ri
 use Rattle.lists.specs.Bounded.{all, all-at, least, least-is, least-none, least-holds}
 use Rattle.lists.specs.Range.{range}
 use Rattle.grid.specs.Cells.{sameTwo}
+use Rattle.cell_pairs.specs.Records.{patternCount}
 use Rattle.cell_pairs.specs.Matches.{Match, _↔_, sameMatches, edgeOf, triangleCount, patternOf}
 use Rattle.cell_pairs.specs.MatchesFacts.{joined, same-matches, same-matches-refl}
 use Rattle.cell_pairs.specs.Cases.{caseAt, canBe}
 use Rattle.cell_pairs.specs.CasesFacts.{can-be-case}
-use Rattle.cell_pairs.specs.Table.{Pattern, pattern, table, tableCount, patternAt, fromTo, same, placeOf, numberOf, block, edgeJoining, inBlock, formulaNumber, ofTwoTriangles}
+use Rattle.cell_pairs.specs.Table.{Pattern, pattern, table, patternAt, fromTo, same, placeOf, numberOf, block, edgeJoining, inBlock, formulaNumber, ofTwoTriangles}
 
 -- ---- the test `same` is equality
 
-built : {n n′ k k′ : ℕ} {ms ms′ : List Match} → n ≡ n′ → k ≡ k′ → ms ≡ ms′ → pattern n k ms ≡ pattern n′ k′ ms′
+pub built : {n n′ k k′ : ℕ} {ms ms′ : List Match} → n ≡ n′ → k ≡ k′ → ms ≡ ms′ → pattern n k ms ≡ pattern n′ k′ ms′
 built p q r = rw (p, q, r)
 
-same-eq : (x y : Pattern) → same x y ≡ true → x ≡ y
+pub same-eq : (x y : Pattern) → same x y ≡ true → x ≡ y
 unfolding same
 same-eq x y e =
     let a : Bool = eqb (x .test) (y .test) in
@@ -32,7 +33,7 @@ same-eq x y e =
     let front : a and b ≡ true = and-left (a and b) c e in
     built (eqb-true _ _ (and-left a b front)) (eqb-true _ _ (and-right a b front)) (same-matches (x .shared) (y .shared) (and-right (a and b) c e))
 
-eq-same : (x y : Pattern) → x ≡ y → same x y ≡ true
+pub eq-same : (x y : Pattern) → x ≡ y → same x y ≡ true
 unfolding same
 eq-same x y e =
     subst (λ (z : Pattern). same x z ≡ true) e
@@ -40,7 +41,7 @@ eq-same x y e =
 
 -- ---- computed over the table
 
-pub table-many : length table ≡ tableCount
+pub table-many : length table ≡ patternCount
 unfolding table
 table-many = refl
 
@@ -54,15 +55,15 @@ unfolding table flatMap range
 table-places = (refl, refl, refl, refl)
 
 -- each pattern stands where the formula says
-formula-computed : all tableCount (λ k. eqb (formulaNumber (patternAt k)) k) ≡ true
+formula-computed : all patternCount (λ k. eqb (formulaNumber (patternAt k)) k) ≡ true
 unfolding all _and_ _or_ least sameTwo edgeJoining inBlock formulaNumber table
 formula-computed = refl
 
-pub table-formula : (k : ℕ) → k < tableCount → formulaNumber (patternAt k) ≡ k
-table-formula k l = eqb-true (formulaNumber (patternAt k)) k (all-at tableCount (λ k. eqb (formulaNumber (patternAt k)) k) formula-computed k l)
+pub table-formula : (k : ℕ) → k < patternCount → formulaNumber (patternAt k) ≡ k
+table-formula k l = eqb-true (formulaNumber (patternAt k)) k (all-at patternCount (λ k. eqb (formulaNumber (patternAt k)) k) formula-computed k l)
 
 -- so no two have the same kinds and pairs
-pub table-once : (k l : ℕ) → k < tableCount → l < tableCount → patternAt k ≡ patternAt l → k ≡ l
+pub table-once : (k l : ℕ) → k < patternCount → l < patternCount → patternAt k ≡ patternAt l → k ≡ l
 table-once k l hk hl e = sym (table-formula k hk) ∙ ap formulaNumber e ∙ table-formula l hl
 
 -- the first 28 are of two triangles, with the numbers of the triangle formula
@@ -97,13 +98,13 @@ unfolding placeOf least
 place-least x d [] = refl
 place-least x d (y ∷ ys) = ap (λ (n : ℕ). cond (same y x) 0 (suc n)) (place-least x d ys)
 
-pub number-least : (x : Pattern) → numberOf x ≡ least tableCount (λ k. same (patternAt k) x)
+pub number-least : (x : Pattern) → numberOf x ≡ least patternCount (λ k. same (patternAt k) x)
 unfolding numberOf
 number-least x = place-least x (pattern 0 0 []) table ∙ ap (λ (n : ℕ). least n (λ k. same (patternAt k) x)) table-many
 
 -- it is the place where the table has it
-pub number-is : (x : Pattern) (k : ℕ) → k < tableCount → patternAt k ≡ x → numberOf x ≡ k
-number-is x k l e = number-least x ∙ least-is tableCount (λ j. same (patternAt j) x) k (omega arith) earlier (λ _. eq-same (patternAt k) x e)
+pub number-is : (x : Pattern) (k : ℕ) → k < patternCount → patternAt k ≡ x → numberOf x ≡ k
+number-is x k l e = number-least x ∙ least-is patternCount (λ j. same (patternAt j) x) k (omega arith) earlier (λ _. eq-same (patternAt k) x e)
   where
     earlier : (j : ℕ) → j < k → same (patternAt j) x ≡ false
     earlier j h =
@@ -112,46 +113,46 @@ number-is x k l e = number-least x ∙ least-is tableCount (λ j. same (patternA
         (λ f. f)
         (cases (same (patternAt j) x))
 
-pub number-none : (x : Pattern) → ((k : ℕ) → k < tableCount → patternAt k ≡ x → ⊥) → numberOf x ≡ tableCount
+pub number-none : (x : Pattern) → ((k : ℕ) → k < patternCount → patternAt k ≡ x → ⊥) → numberOf x ≡ patternCount
 number-none x h =
     number-least x
-    ∙ least-none tableCount (λ j. same (patternAt j) x)
+    ∙ least-none patternCount (λ j. same (patternAt j) x)
     (λ k l. ⊎-elim (λ t. absurd (h k l (same-eq (patternAt k) x t))) (λ f. f) (cases (same (patternAt k) x)))
 
 -- a number of the table is the number of the pattern there
-pub number-at : (x : Pattern) → numberOf x < tableCount → patternAt (numberOf x) ≡ x
+pub number-at : (x : Pattern) → numberOf x < patternCount → patternAt (numberOf x) ≡ x
 number-at x l =
     let f : ℕ → Bool = λ j. same (patternAt j) x in
     same-eq (patternAt (numberOf x)) x
-    (subst (λ (k : ℕ). same (patternAt k) x ≡ true) (sym (number-least x)) (least-holds tableCount f (subst (λ (k : ℕ). k < tableCount) (number-least x) l)))
+    (subst (λ (k : ℕ). same (patternAt k) x ≡ true) (sym (number-least x)) (least-holds patternCount f (subst (λ (k : ℕ). k < patternCount) (number-least x) l)))
 
 -- it is the formula's number where the table has the pattern there; else it has none
-pub number-by-formula : (x : Pattern) → numberOf x ≡ cond (ltb (formulaNumber x) tableCount and same (patternAt (formulaNumber x)) x) (formulaNumber x) tableCount
-number-by-formula x = go (ltb (formulaNumber x) tableCount and same (patternAt (formulaNumber x)) x) refl
+pub number-by-formula : (x : Pattern) → numberOf x ≡ cond (ltb (formulaNumber x) patternCount and same (patternAt (formulaNumber x)) x) (formulaNumber x) patternCount
+number-by-formula x = go (ltb (formulaNumber x) patternCount and same (patternAt (formulaNumber x)) x) refl
   where
-    go : (b : Bool) → ltb (formulaNumber x) tableCount and same (patternAt (formulaNumber x)) x ≡ b → numberOf x ≡ cond b (formulaNumber x) tableCount
+    go : (b : Bool) → ltb (formulaNumber x) patternCount and same (patternAt (formulaNumber x)) x ≡ b → numberOf x ≡ cond b (formulaNumber x) patternCount
     go true e =
         number-is x (formulaNumber x) (ltb-true _ _ (and-left _ (same (patternAt (formulaNumber x)) x) e))
-        (same-eq (patternAt (formulaNumber x)) x (and-right (ltb (formulaNumber x) tableCount) _ e))
+        (same-eq (patternAt (formulaNumber x)) x (and-right (ltb (formulaNumber x) patternCount) _ e))
     go false e =
         number-none x
         (λ k l q.
         let here : formulaNumber x ≡ k = ap formulaNumber (sym q) ∙ table-formula k l in
         true≢false
         (sym
-        (and-both _ _ (lt-ltb (formulaNumber x) tableCount (omega arith)) (eq-same (patternAt (formulaNumber x)) x (ap patternAt here ∙ q)))
+        (and-both _ _ (lt-ltb (formulaNumber x) patternCount (omega arith)) (eq-same (patternAt (formulaNumber x)) x (ap patternAt here ∙ q)))
         ∙ e))
 
 -- ---- of two triangles
 
 -- the triangle formula's number, if it is one of a pattern
 abbrev triangleNumber : List Match → ℕ
-triangleNumber ms = cond (ltb (patternOf ms) triangleCount) (patternOf ms) tableCount
+triangleNumber ms = cond (ltb (patternOf ms) triangleCount) (patternOf ms) patternCount
 
 unfoldable agrees : List Match → Bool
 agrees ms =
     let x = pattern 3 3 ms in
-    eqb (cond (ltb (formulaNumber x) tableCount and same (patternAt (formulaNumber x)) x) (formulaNumber x) tableCount) (triangleNumber ms)
+    eqb (cond (ltb (formulaNumber x) patternCount and same (patternAt (formulaNumber x)) x) (formulaNumber x) patternCount) (triangleNumber ms)
 
 agrees-number : (ms : List Match) → agrees ms ≡ true → numberOf (pattern 3 3 ms) ≡ triangleNumber ms
 unfolding agrees
@@ -204,7 +205,7 @@ three-number m n o h k =
     joined refl (omega (arith, a, b, c)) (joined refl (omega (arith, a, b, c)) (joined refl (omega (arith, a, b, c)) refl)) in
     agrees-number _ (subst (λ (ms : List Match). agrees ms ≡ true) places (all-at 3 _ (all-at 3 _ (all-at 3 _ three-computed _ (h .test-first)) _ (h .test-second)) _ (k .test-second)))
 
-pub triangles-number : (ms : List Match) → ofTwoTriangles ms ≡ true → numberOf (pattern 3 3 ms) ≡ cond (ltb (patternOf ms) triangleCount) (patternOf ms) tableCount
+pub triangles-number : (ms : List Match) → ofTwoTriangles ms ≡ true → numberOf (pattern 3 3 ms) ≡ cond (ltb (patternOf ms) triangleCount) (patternOf ms) patternCount
 unfolding ofTwoTriangles
 triangles-number [] e = agrees-number [] none-computed
 triangles-number (m ∷ []) e = few-number (m ∷ []) e

@@ -1,5 +1,5 @@
--- Laws of the formula as the code finds its number: where a block begins, the local edge that joins two places, the place inside the block; and of the row of the
--- table where it points. Assumes nothing.
+-- Laws of the formula as its number is found: where a block begins, the local edge that joins two places, the place inside the block; of the digits of shared
+-- vertices; and of the row of the table where the formula points. Assumes nothing.
 use Prim.Native.Nat.{ℕ, zero, suc, _+_, _*_, _<_, _≤_}
 use native.Mathlib.Nat.{add-zero, mul-le-mul-right}
 use native.Mathlib.Omega.{arith}
@@ -14,11 +14,13 @@ use Rattle.lists.specs.Bool.{_and_}
 use Rattle.lists.specs.Bounded.{least, eq-or-ne, lt-or-le}
 use Rattle.lists.specs.Range.{range}
 use Rattle.grid.specs.Cells.{endsOf, sameTwo}
+use Rattle.cell_pairs.specs.Records.{patternCount}
 use Rattle.cell_pairs.specs.Matches.{Match}
-use Rattle.cell_pairs.specs.Table.{pattern, tableCount, numberOf, blockStart, edgeJoining, inBlock, formulaNumber}
+use Rattle.cell_pairs.specs.Table.{Pattern, pattern, numberOf, blockStart, edgeJoining, inBlock, formulaNumber}
 use Rattle.cell_pairs.specs.TableFacts.{number-by-formula}
-use Rattle.cell_patterns.specs.TableNumbers.{listed, isRow}
-use Rattle.cell_patterns.specs.TableRows.{row-same}
+use Rattle.pattern_table.specs.Numbers.{codeOn, codeOf, codeAt}
+use Rattle.cell_patterns.specs.Shared.{listed}
+use Rattle.cell_patterns.specs.TableRows.{Decimal, row-same}
 
 -- ---- the block's start, by cases
 
@@ -82,8 +84,16 @@ second-past-four n (suc (suc (suc (suc e)))) k a b c d = rw (ne-eqb n 3 k)
 
 -- ---- the place inside the block
 
+-- at most four, and not fewer
+pub four-pairs : (p : ℕ) → (p ≡ 0 → ⊥) → (p ≡ 1 → ⊥) → (p ≡ 2 → ⊥) → (p ≡ 3 → ⊥) → p ≤ 4 → p ≡ 4
+four-pairs zero a b c d l = absurd (a refl)
+four-pairs (suc zero) a b c d l = absurd (b refl)
+four-pairs (suc (suc zero)) a b c d l = absurd (c refl)
+four-pairs (suc (suc (suc zero))) a b c d l = absurd (d refl)
+four-pairs (suc (suc (suc (suc p)))) a b c d l = omega arith
+
 module _ (n k pairs : ℕ) (ts rs : List ℕ) where
-  pub in-none : pairs ≡ 0 → tableCount ≡ inBlock n k (listed pairs ts rs)
+  pub in-none : pairs ≡ 0 → patternCount ≡ inBlock n k (listed pairs ts rs)
   unfolding inBlock listed range
   in-none e = rw e
 
@@ -105,14 +115,34 @@ module _ (n k pairs : ℕ) (ts rs : List ℕ) where
 
   pub in-more : (pairs ≡ 0 → ⊥) → (pairs ≡ 1 → ⊥) → (pairs ≡ 2 → ⊥) → pairs ≤ 4 → 3 * (n * k) ≡ inBlock n k (listed pairs ts rs)
   unfolding inBlock listed range
-  in-more a b c l = ⊎-elim (λ e. rw e) (λ d. let e : pairs ≡ 4 = four pairs a b c d l in rw e) (eq-or-ne pairs 3)
-    where
-      four : (p : ℕ) → (p ≡ 0 → ⊥) → (p ≡ 1 → ⊥) → (p ≡ 2 → ⊥) → (p ≡ 3 → ⊥) → p ≤ 4 → p ≡ 4
-      four zero a b c d l = absurd (a refl)
-      four (suc zero) a b c d l = absurd (b refl)
-      four (suc (suc zero)) a b c d l = absurd (c refl)
-      four (suc (suc (suc zero))) a b c d l = absurd (d refl)
-      four (suc (suc (suc (suc p)))) a b c d l = omega arith
+  in-more a b c l = ⊎-elim (λ e. rw e) (λ d. let e : pairs ≡ 4 = four-pairs pairs a b c d l in rw e) (eq-or-ne pairs 3)
+
+-- ---- the digits of shared vertices
+
+module _ (n k pairs : ℕ) (ts rs : List ℕ) where
+  pub code-none : pairs ≡ 0 → 10 * n + k ≡ codeOf (pattern n k (listed pairs ts rs))
+  unfolding codeOf codeOn listed range
+  code-none h = rw h
+
+  module _ {a : ℕ} (e : a ≡ 10 * getD ts 0 0 + getD rs 0 0) where
+    pub code-one : pairs ≡ 1 → 100 * (10 * n + k) + a ≡ codeOf (pattern n k (listed pairs ts rs))
+    unfolding codeOf codeOn listed range
+    code-one h = rw (h, e)
+
+    module _ {b : ℕ} (f : b ≡ 10 * getD ts 1 0 + getD rs 1 0) where
+      pub code-two : pairs ≡ 2 → 100 * (100 * (10 * n + k) + a) + b ≡ codeOf (pattern n k (listed pairs ts rs))
+      unfolding codeOf codeOn listed range
+      code-two h = rw (h, e, f)
+
+      module _ {c : ℕ} (g : c ≡ 10 * getD ts 2 0 + getD rs 2 0) where
+        pub code-three : pairs ≡ 3 → 100 * (100 * (100 * (10 * n + k) + a) + b) + c ≡ codeOf (pattern n k (listed pairs ts rs))
+        unfolding codeOf codeOn listed range
+        code-three h = rw (h, e, f, g)
+
+        pub code-four : {d : ℕ} → d ≡ 10 * getD ts 3 0 + getD rs 3 0 → pairs ≡ 4
+            → 100 * (100 * (100 * (100 * (10 * n + k) + a) + b) + c) + d ≡ codeOf (pattern n k (listed pairs ts rs))
+        unfolding codeOf codeOn listed range
+        code-four i h = rw (h, e, f, g, i)
 
 -- ---- the number
 
@@ -120,23 +150,18 @@ pub formula-at : (n k : ℕ) (ms : List Match) {a b : ℕ} → a ≡ blockStart 
 unfolding formulaNumber
 formula-at n k ms e f = rw (e, f)
 
-module _ (n k pairs : ℕ) (ts rs : List ℕ) {r : ℕ} (e : r ≡ formulaNumber (pattern n k (listed pairs ts rs))) where
-  -- the row where the formula points is the pattern's
-  pub number-here : {b : Bool} → r < tableCount → b ≡ isRow r n k pairs ts rs → b ≡ true → r ≡ numberOf (pattern n k (listed pairs ts rs))
+module _ (x : Pattern) {r : ℕ} (e : r ≡ formulaNumber x) where
+  -- there is no such row
+  pub number-past : patternCount ≤ r → patternCount ≡ numberOf x
   unfolding _and_
-  number-here l f t =
-      sym
-      (number-by-formula _
-      ∙ rw (← e, lt-ltb r tableCount l, sym (row-same r n k pairs ts rs l) ∙ sym f ∙ t))
+  number-past l = sym (number-by-formula x ∙ rw (← e, le-ltb r patternCount l))
 
-  -- it is another's, or there is no such row
-  pub number-other : {b : Bool} → r < tableCount → b ≡ isRow r n k pairs ts rs → b ≡ false → tableCount ≡ numberOf (pattern n k (listed pairs ts rs))
-  unfolding _and_
-  number-other l f t =
-      sym
-      (number-by-formula _
-      ∙ rw (← e, lt-ltb r tableCount l, sym (row-same r n k pairs ts rs l) ∙ sym f ∙ t))
+  -- the row is that of the pattern, or another's
+  module _ (l : r < patternCount) (d : Decimal x) {a b : ℕ} (f : a ≡ codeAt r) (g : b ≡ codeOf x) where
+    pub number-here : a ≡ b → r ≡ numberOf x
+    unfolding _and_
+    number-here h = sym (number-by-formula x ∙ rw (← e, lt-ltb r patternCount l, sym (row-same r x l d) ∙ eq-eqb _ _ (sym f ∙ h ∙ g)))
 
-  pub number-past : tableCount ≤ r → tableCount ≡ numberOf (pattern n k (listed pairs ts rs))
-  unfolding _and_
-  number-past l = sym (number-by-formula _ ∙ rw (← e, le-ltb r tableCount l))
+    pub number-other : (a ≡ b → ⊥) → patternCount ≡ numberOf x
+    unfolding _and_
+    number-other h = sym (number-by-formula x ∙ rw (← e, lt-ltb r patternCount l, sym (row-same r x l d) ∙ ne-eqb _ _ (λ q. h (f ∙ q ∙ sym g))))

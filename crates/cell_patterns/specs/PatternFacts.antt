@@ -17,7 +17,7 @@ use Rattle.lists.specs.Total.{gate}
 use Rattle.grid.specs.Cells.{has, share, distinct}
 use Rattle.grid.specs.CellsFacts.{has-at, has-place, share-which, share-at, share-turned}
 use Rattle.grid.specs.Rows.{entity, row, cellIn}
-use Rattle.grid.specs.RowsFacts.{has-at as row-has, cell-three, cell-four, cell-length, cell-most, cell-entity, cell-in-row, has-row, Padded, cell-number}
+use Rattle.grid.specs.RowsFacts.{three-long, four-long, has-at as row-has, cell-three, cell-four, cell-length, cell-most, cell-entity, cell-in-row, has-row, Padded, cell-number}
 use Rattle.grid.specs.Mesh.{Mesh, corners}
 use Rattle.cells_by_key.specs.Groups.{cellsWith, part, Grouped, Below}
 use Rattle.cells_by_key.specs.GroupsFacts.{grouped-each, group-place, group-cells}
@@ -169,7 +169,7 @@ module _ (rows : List ℕ) (i j : ℕ) (d : distinct (three rows i) ≡ true) (k
       rw (pattern-at rows i j d) (few-number (places-of (three rows i) (three rows j) refl k) few)
 
   -- a pair that does not share three vertices passes
-  pub few-right : sharesAll rows i j ≡ false → cellsRight (three rows i) (three rows j) ≡ true
+  few-right : sharesAll rows i j ≡ false → cellsRight (three rows i) (three rows j) ≡ true
   few-right t = ⊎-elim (λ s. or-right _ _ (lt-ltb _ _ (share-few s t))) (λ s. or-left _ _ (ap not s)) (cases (share (three rows i) (three rows j)))
 
   shared : (q : ℕ) → has (three rows i) (entity rows j q) ≡ true → place (three rows i) (entity rows j q) < 3
@@ -183,35 +183,37 @@ module _ (rows : List ℕ) (i j : ℕ) (d : distinct (three rows i) ≡ true) (k
       ∙ rw (first-place (eqb (entity rows i 0) (entity rows j 0)), second-place _ _ _ (lone (three rows i) (entity rows j 1) refl d), third-place _ _ _ (lone (three rows i) (entity rows j 2) refl d))
 
   -- it passes where the two lists are the same
-  pub all-right : sharesAll rows i j ≡ true → cellsRight (three rows i) (three rows j) ≡ sameList rows i j
+  all-right : sharesAll rows i j ≡ true → cellsRight (three rows i) (three rows j) ≡ sameList rows i j
   unfolding _or_
   all-right t = rw (share-first rows i j (every-at _ t 0), all-pattern t) (three-right (sameList rows i j))
 
   -- the answers of a search that stops early
-  pub first-missing : {b : Bool} → b ≡ has (three rows i) (getD rows (4 * j) 0) → not b ≡ true → true ≡ cellsRight (three rows i) (three rows j)
-  first-missing e h = sym (few-right (every-fails _ 0 (rw (← first-of rows j) (turned e h))))
+  module _ (other : (p : ℕ) → p < 3 → entity rows j p ≡ entity rows i 3 → ⊥) where
+    in-row : (p : ℕ) → p < 3 → {b : Bool} → b ≡ has (row rows i) (entity rows j p) → b ≡ has (three rows i) (entity rows j p)
+    in-row p l e = e ∙ has-row (entity rows i 3) rows i _ (other p l) ∙ ap (λ (xs : List ℕ). has xs (entity rows j p)) (cell-three _ rows i refl)
 
-  pub none-missing : {a b c : Bool} → a ≡ has (three rows i) (getD rows (4 * j) 0) → not a ≡ false → b ≡ has (three rows i) (entity rows j 1) → not b ≡ false → c ≡ has (three rows i) (entity rows j 2) → not c ≡ false
-      → cellsRight (three rows i) (three rows j) ≡ sameList rows i j
-  none-missing e h f k g l = all-right (every-of (rw (← first-of rows j) (passed e h) also passed f k also passed g l also end))
+    first-in-row : {b : Bool} → b ≡ has (row rows i) (getD rows (4 * j) 0) → b ≡ has (three rows i) (entity rows j 0)
+    first-in-row e = in-row 0 (omega arith) (e ∙ ap (has (row rows i)) (first-of rows j))
+
+    pub first-missing : {b : Bool} → b ≡ has (row rows i) (getD rows (4 * j) 0) → not b ≡ true → true ≡ cellsRight (three rows i) (three rows j)
+    first-missing e h = sym (few-right (every-fails _ 0 (turned (first-in-row e) h)))
+
+    pub second-missing : {b : Bool} → b ≡ has (row rows i) (entity rows j 1) → not b ≡ true → true ≡ cellsRight (three rows i) (three rows j)
+    second-missing e h = sym (few-right (every-fails _ 1 (turned (in-row 1 (omega arith) e) h)))
+
+    pub third-missing : {b : Bool} → b ≡ has (row rows i) (entity rows j 2) → not b ≡ true → true ≡ cellsRight (three rows i) (three rows j)
+    third-missing e h = sym (few-right (every-fails _ 2 (turned (in-row 2 (omega arith) e) h)))
+
+    pub none-missing : {a b c : Bool} → a ≡ has (row rows i) (getD rows (4 * j) 0) → not a ≡ false → b ≡ has (row rows i) (entity rows j 1) → not b ≡ false → c ≡ has (row rows i) (entity rows j 2) → not c ≡ false
+        → cellsRight (three rows i) (three rows j) ≡ sameList rows i j
+    none-missing e h f k g l = all-right (every-of (passed (first-in-row e) h also passed (in-row 1 (omega arith) f) k also passed (in-row 2 (omega arith) g) l also end))
 
 -- ---- a cell in its row
 
--- a list of three, and of four
-by-three : (xs : List ℕ) → length xs ≡ 3 → xs ≡ getD xs 0 0 ∷ getD xs 1 0 ∷ getD xs 2 0 ∷ []
-by-three [] e = absurd (omega arith)
-by-three (a ∷ []) e = absurd (omega arith)
-by-three (a ∷ b ∷ []) e = absurd (omega arith)
-by-three (a ∷ b ∷ c ∷ []) e = refl
-by-three (a ∷ b ∷ c ∷ d ∷ xs) e = absurd (omega arith)
-
-by-four : (xs : List ℕ) → length xs ≡ 4 → xs ≡ getD xs 0 0 ∷ getD xs 1 0 ∷ getD xs 2 0 ∷ getD xs 3 0 ∷ []
-by-four [] e = absurd (omega arith)
-by-four (a ∷ []) e = absurd (omega arith)
-by-four (a ∷ b ∷ []) e = absurd (omega arith)
-by-four (a ∷ b ∷ c ∷ []) e = absurd (omega arith)
-by-four (a ∷ b ∷ c ∷ d ∷ []) e = refl
-by-four (a ∷ b ∷ c ∷ d ∷ x ∷ xs) e = absurd (omega arith)
+-- no vertex stands twice in a cell, and the first three numbers of its row are below `none`
+pub record Apart (none : ℕ) (rows : List ℕ) : Type 0 where
+  pub apart : (i : ℕ) → 4 * i + 4 ≤ length rows → distinctIn none rows i ≡ true
+  pub padded : Padded none rows
 
 module _ (none : ℕ) (rows : List ℕ) where
   -- a cell of a row has three vertices or four
@@ -233,6 +235,10 @@ module _ (none : ℕ) (rows : List ℕ) where
     pub both-apart : distinctIn none rows i ≡ true → distinctIn none rows j ≡ true → (distinct (three rows i) ≡ true) × (distinct (three rows j) ≡ true)
     both-apart d f = (subst (λ (xs : List ℕ). distinct xs ≡ true) both-test d, subst (λ (xs : List ℕ). distinct xs ≡ true) both-trial f)
 
+    -- the fourth number of row i is no vertex of cell j
+    pub both-other : Apart none rows → 4 * j + 4 ≤ length rows → (p : ℕ) → p < 3 → entity rows j p ≡ entity rows i 3 → ⊥
+    both-other h l p b q = omega (arith, h .padded .firsts j p l b, eqb-true (entity rows i 3) none (and-left _ _ (sym e ∙ t)))
+
     -- what these two have, the two cells have
     pub both-have : {A : Type 0} (f : List ℕ → List ℕ → A) {r : A} → r ≡ f (three rows i) (three rows j) → r ≡ f (cellIn none rows i) (cellIn none rows j)
     both-have f h = h ∙ sym (ap₂ f both-test both-trial)
@@ -249,20 +255,16 @@ module _ (none : ℕ) (rows : List ℕ) where
     cut-three e =
         let k : 4 * i + 3 - 4 * i ≡ 3 = omega arith in
         rw k
-        (by-three _ (cut 3 (omega arith)) ∙ rw (cut-at 3 0 (omega arith), cut-at 3 1 (omega arith), cut-at 3 2 (omega arith)) (sym (cell-three none rows i e)))
+        (three-long _ (cut 3 (omega arith)) ∙ rw (cut-at 3 0 (omega arith), cut-at 3 1 (omega arith), cut-at 3 2 (omega arith)) (sym (cell-three none rows i e)))
 
     pub cut-four : (entity rows i 3 ≡ none → ⊥) → take (4 * i + 4 - 4 * i) (drop (4 * i) rows) ≡ cellIn none rows i
     cut-four e =
         let k : 4 * i + 4 - 4 * i ≡ 4 = omega arith in
         rw k
-        (by-four _ (cut 4 (omega arith))
+        (four-long _ (cut 4 (omega arith))
         ∙ rw (cut-at 4 0 (omega arith), cut-at 4 1 (omega arith), cut-at 4 2 (omega arith), cut-at 4 3 (omega arith)) (sym (cell-four none rows i e)))
 
 -- ---- check 7, by vertex
-
--- no vertex stands twice in a cell
-pub record Apart (none : ℕ) (rows : List ℕ) : Type 0 where
-  pub apart : (i : ℕ) → 4 * i + 4 ≤ length rows → distinctIn none rows i ≡ true
 
 -- each cell of a list against each
 unfoldable pub groupRight : ℕ → List ℕ → List ℕ → Bool

@@ -20,7 +20,7 @@ use Rattle.cell_pairs.specs.Matches.{Match, _↔_, matches}
 use Rattle.cell_pairs.specs.Records.{patternCount}
 use Rattle.cell_pairs.specs.Table.{pattern, numberOf}
 use Rattle.cell_patterns.specs.Flat.{cellsRight}
-use Rattle.cell_patterns.specs.TableNumbers.{listed, placeIn}
+use Rattle.cell_patterns.specs.Shared.{listed, placeIn}
 
 -- each place in the two lists is below 4
 pub record Small (ts rs : List ℕ) : Type 0 where
@@ -192,7 +192,7 @@ place-small xs x e h = omega (arith, e, place-le xs x)
 
 -- ---- check 7
 
-length-listed : (n : ℕ) (ts rs : List ℕ) → length (listed n ts rs) ≡ n
+pub length-listed : (n : ℕ) (ts rs : List ℕ) → length (listed n ts rs) ≡ n
 unfolding listed
 length-listed n ts rs = length-map (range n) (λ k. getD ts k 0 ↔ getD rs k 0) ∙ length-range n
 

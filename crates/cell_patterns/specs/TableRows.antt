@@ -1,92 +1,109 @@
--- Laws of the table as numbers: row r is pattern r. Assumes nothing.
-use Prim.Native.Nat.{ℕ, _+_, _*_, _<_}
-use mathlib.Core.Path.{_≡_, refl, sym, ap, ap₂, subst, _∙_}
-use mathlib.Core.Bool.{Bool, true, false, not, _&&_}
-use mathlib.Core.List.{List, [], flatMap, map}
-use lib.ListN.{length, getD, length-map}
-use lib.Dec.{eqb}
-use borrow.Author.Tests.{eqb-true, eq-eqb}
-use Rattle.lists.specs.Bool.{_and_, same-test, and-left, and-right, and-both, turned, passed}
-use Rattle.lists.specs.Bounded.{all, all-none, all-more, all-fails, all-at, all-of}
-use Rattle.lists.specs.Range.{range, length-range, map-at, map-below}
-use Rattle.cell_pairs.specs.Matches.{Match, _↔_, sameMatches}
-use Rattle.cell_pairs.specs.MatchesFacts.{same-matches, same-matches-refl}
-use Rattle.cell_pairs.specs.Table.{Pattern, pattern, table, tableCount, patternAt, same}
-use Rattle.pattern_table.specs.Numbers.{numbersOf, tableRows, numbersAt}
-use Rattle.cell_patterns.specs.TableNumbers.{rowAt, listed, samePlaces, isRow}
+-- Laws of the table as numbers: a code tells its pattern, so that row r is the code of pattern r and of no other. Assumes nothing.
+use Prim.Native.Nat.{ℕ, _+_, _*_, _<_, _≤_}
+use native.Mathlib.Omega.{arith}
+use mathlib.Core.Path.{_≡_, refl, sym, ap, _∙_}
+use mathlib.Core.Bool.{Bool, true}
+use mathlib.Core.List.{List, [], _∷_}
+use lib.ListN.{length, getD, List·getD-map}
+use lib.Dec.{eqb, ltb}
+use borrow.Author.Tests.{eqb-true, eq-eqb, ltb-true}
+use Rattle.lists.specs.Bool.{_and_, every, every-at, and-left, and-right, same-test}
+use Rattle.lists.specs.Bounded.{all, all-at}
+use Rattle.lists.specs.Range.{map-at, AllIn, all-in-places}
+use Rattle.cell_pairs.specs.Records.{patternCount}
+use Rattle.cell_pairs.specs.Matches.{Match, _↔_}
+use Rattle.cell_pairs.specs.MatchesFacts.{joined}
+use Rattle.cell_pairs.specs.Table.{Pattern, pattern, table, patternAt, same}
+use Rattle.cell_pairs.specs.TableFacts.{built, same-eq, eq-same}
+use Rattle.pattern_table.specs.Numbers.{codeOn, codeOf, tableRows, codeAt}
+use Rattle.cell_patterns.specs.Shared.{listed}
+use Rattle.cell_patterns.specs.SharedFacts.{Small, length-listed}
 
--- over the whole table: row r is pattern r
-rows-computed : table ≡ map (λ r. rowAt (numbersAt r)) (range tableCount)
-unfolding rowAt tableRows numbersOf table flatMap range
-rows-computed = refl
+-- ---- a code tells its pattern
 
-row-at : (r : ℕ) → r < tableCount → patternAt r ≡ rowAt (numbersAt r)
-row-at r l = ap (λ (ps : List Pattern). getD ps r (pattern 0 0 [])) rows-computed ∙ map-at (λ r. rowAt (numbersAt r)) (pattern 0 0 []) tableCount r l
+-- the places of a shared vertex are digits
+abbrev Digits : Match → Type 0
+Digits m = (m .test < 10) × (m .trial < 10)
 
--- ---- two lists, made place by place
+on-grows : (c : ℕ) (ms : List Match) → c ≤ codeOn c ms
+unfolding codeOn
+on-grows c [] = omega arith
+on-grows c (m ∷ ms) = omega (arith, on-grows (100 * c + (10 * m .test + m .trial)) ms)
 
-abbrev noMatch : Match
-noMatch = 0 ↔ 0
+-- where neither of c and d is a hundred times the other
+on-tells : (c d : ℕ) (ms ns : List Match) → AllIn Digits ms → AllIn Digits ns → c < 100 * d → d < 100 * c → codeOn c ms ≡ codeOn d ns → (c ≡ d) × (ms ≡ ns)
+unfolding codeOn AllIn
+on-tells c d [] [] p q a b e = (e, refl)
+on-tells c d [] (n ∷ ns) p q a b e = absurd (omega (arith, on-grows (100 * d + (10 * n .test + n .trial)) ns))
+on-tells c d (m ∷ ms) [] p q a b e = absurd (omega (arith, on-grows (100 * c + (10 * m .test + m .trial)) ms))
+on-tells c d (m ∷ ms) (n ∷ ns) p q a b e =
+    let more =
+    on-tells (100 * c + (10 * m .test + m .trial)) (100 * d + (10 * n .test + n .trial)) ms ns (p .1) (q .1) (omega arith) (omega arith) e in
+    (omega (arith, more .0), joined (omega (arith, more .0)) (omega (arith, more .0)) (more .1))
 
--- they are the same where they are as long, and the same at each place
-same-mapped : (c p : ℕ) (f g : ℕ → Match)
-    → sameMatches (map f (range c)) (map g (range p)) ≡ (eqb c p and all p (λ i. eqb (f i .test) (g i .test) and eqb (f i .trial) (g i .trial)))
-same-mapped c p f g =
-    same-test (sameMatches (map f (range c)) (map g (range p))) (eqb c p and all p at-place)
-    (λ e. let lists : map f (range c) ≡ map g (range p) = same-matches _ _ e in and-both (eqb c p) (all p at-place) (eq-eqb c p (sizes lists)) (all-of p at-place (λ i l. places lists i l)))
-    (λ e.
-    let c=p : c ≡ p = eqb-true c p (and-left (eqb c p) (all p at-place) e) in
-    lists-same (ap (λ (n : ℕ). map f (range n)) c=p ∙ map-below f g p (λ i l. agree i (all-at p at-place (and-right (eqb c p) (all p at-place) e) i l))))
-  where
-    at-place : ℕ → Bool
-    at-place i = eqb (f i .test) (g i .test) and eqb (f i .trial) (g i .trial)
+-- the kinds and the places of a pattern are digits, the first not 0
+pub record Decimal (x : Pattern) : Type 0 where
+  pub first : 0 < x .test
+  pub test : x .test < 10
+  pub trial : x .trial < 10
+  pub places : AllIn Digits (x .shared)
 
-    sizes : map f (range c) ≡ map g (range p) → c ≡ p
-    sizes e = sym (length-map (range c) f ∙ length-range c) ∙ ap length e ∙ length-map (range p) g ∙ length-range p
+code-tells : {x y : Pattern} → Decimal x → Decimal y → codeOf x ≡ codeOf y → x ≡ y
+unfolding codeOf
+code-tells {x} {y} p q e =
+    let parts = on-tells (10 * x .test + x .trial) (10 * y .test + y .trial) (x .shared) (y .shared) (p .places) (q .places) (omega arith) (omega arith) e in
+    built (omega (arith, parts .0)) (omega (arith, parts .0)) (parts .1)
 
-    places : map f (range c) ≡ map g (range p) → (i : ℕ) → i < p → at-place i ≡ true
-    places e i l =
-        let same-at : f i ≡ g i =
-        sym (map-at f noMatch c i (subst (λ (n : ℕ). i < n) (sym (sizes e)) l)) ∙ ap (λ (ms : List Match). getD ms i noMatch) e ∙ map-at g noMatch p i l in
-        and-both _ _ (eq-eqb _ _ (ap (λ (m : Match). m .test) same-at)) (eq-eqb _ _ (ap (λ (m : Match). m .trial) same-at))
+-- of shared vertices the places are below 4
+pub listed-decimal : (n k pairs : ℕ) {ts rs : List ℕ} → 3 ≤ n → n ≤ 4 → k ≤ 4 → Small ts rs → Decimal (pattern n k (listed pairs ts rs))
+unfolding listed
+listed-decimal n k pairs {ts} {rs} a b c s =
+    record {
+      first = omega arith;
+      test = omega arith;
+      trial = omega arith;
+      places =
+          all-in-places Digits (listed pairs ts rs) (0 ↔ 0)
+          (λ i l. rw (map-at (λ k. getD ts k 0 ↔ getD rs k 0) (0 ↔ 0) pairs i (omega (arith, length-listed pairs ts rs))) (omega (arith, s .test i), omega (arith, s .trial i)));
+    }
 
-    agree : (i : ℕ) → at-place i ≡ true → f i ≡ g i
-    agree i e = ap₂ _↔_ (eqb-true _ _ (and-left (eqb (f i .test) (g i .test)) _ e)) (eqb-true _ _ (and-right (eqb (f i .test) (g i .test)) _ e))
+-- ---- the table
 
-    lists-same : {ms ns : List Match} → ms ≡ ns → sameMatches ms ns ≡ true
-    lists-same {ms} {ns} e = subst (λ (l : List Match). sameMatches ms l ≡ true) e (same-matches-refl ms)
+unfoldable decimal : Pattern → Bool
+decimal x =
+    every
+    (ltb 0 (x .test)
+    ∷ ltb (x .test) 10
+    ∷ ltb (x .trial) 10
+    ∷ all (length (x .shared)) (λ i. ltb (getD (x .shared) i (0 ↔ 0) .test) 10 and ltb (getD (x .shared) i (0 ↔ 0) .trial) 10)
+    ∷ [])
 
--- the test of a row is the test of its pattern
-pub row-same : (r n k pairs : ℕ) (ts rs : List ℕ) → r < tableCount → isRow r n k pairs ts rs ≡ same (patternAt r) (pattern n k (listed pairs ts rs))
-unfolding isRow samePlaces same rowAt listed
-row-same r n k pairs ts rs l =
-    sym
-    (ap (λ (x : Pattern). same x (pattern n k (listed pairs ts rs))) (row-at r l)
-    ∙ ap (λ (b : Bool). eqb (getD (numbersAt r) 0 0) n and eqb (getD (numbersAt r) 1 0) k and b)
-    (same-mapped (getD (numbersAt r) 2 0) pairs (λ i. getD (numbersAt r) (3 + 2 * i) 0 ↔ getD (numbersAt r) (4 + 2 * i) 0) (λ i. getD ts i 0 ↔ getD rs i 0)))
+decimal-holds : (x : Pattern) → decimal x ≡ true → Decimal x
+unfolding decimal
+decimal-holds x e =
+    record {
+      first = ltb-true _ _ (every-at _ e 0);
+      test = ltb-true _ _ (every-at _ e 1);
+      trial = ltb-true _ _ (every-at _ e 2);
+      places =
+          all-in-places Digits (x .shared) (0 ↔ 0)
+          (λ i l. let d = all-at (length (x .shared)) _ (every-at _ e 3) i l in (ltb-true _ _ (and-left _ _ d), ltb-true _ _ (and-right (ltb (getD (x .shared) i (0 ↔ 0) .test) 10) _ d)));
+    }
 
--- what a test of a row that answers b says
-pub row-tells : (r n k pairs : ℕ) (ts rs : List ℕ) {b c : Bool} → b ≡ isRow r n k pairs ts rs → r < tableCount → b ≡ c → same (patternAt r) (pattern n k (listed pairs ts rs)) ≡ c
-row-tells r n k pairs ts rs e l f = sym (row-same r n k pairs ts rs l) ∙ sym e ∙ f
+-- computed over the whole table
+table-computed : all patternCount (λ r. decimal (patternAt r)) ≡ true
+unfolding all _and_ every decimal table
+table-computed = refl
 
--- ---- the places of a row, one after the other
+row-decimal : (r : ℕ) → r < patternCount → Decimal (patternAt r)
+row-decimal r l = decimal-holds (patternAt r) (all-at patternCount (λ r. decimal (patternAt r)) table-computed r l)
 
-module _ (row ts rs : List ℕ) where
-  pub places-none : samePlaces row 0 ts rs ≡ true
-  unfolding samePlaces
-  places-none = all-none _
+row-code : (r : ℕ) → codeAt r ≡ codeOf (patternAt r)
+unfolding tableRows codeOf codeOn
+row-code r = List·getD-map codeOf table r (pattern 0 0 [])
 
-  module _ (i : ℕ) where
-    read : (eqb (getD row (3 + 2 * i) 0) (getD ts i 0) && eqb (getD row (4 + 2 * i) 0) (getD rs i 0))
-        ≡ (eqb (getD row (3 + 2 * i) 0) (getD ts i 0) and eqb (getD row (4 + 2 * i) 0) (getD rs i 0))
-    unfolding _and_
-    read = refl
-
-    pub places-more : samePlaces row i ts rs ≡ true → not (eqb (getD row (3 + 2 * i) 0) (getD ts i 0) && eqb (getD row (4 + 2 * i) 0) (getD rs i 0)) ≡ false
-        → samePlaces row (i + 1) ts rs ≡ true
-    unfolding samePlaces
-    places-more h e = all-more i _ h (passed read e)
-
-    pub places-fail : (n : ℕ) → i < n → not (eqb (getD row (3 + 2 * i) 0) (getD ts i 0) && eqb (getD row (4 + 2 * i) 0) (getD rs i 0)) ≡ true → false ≡ samePlaces row n ts rs
-    unfolding samePlaces
-    places-fail n l e = sym (all-fails n _ i l (turned read e))
+-- row r is the code of a pattern exactly where this is pattern r
+pub row-same : (r : ℕ) (x : Pattern) → r < patternCount → Decimal x → eqb (codeAt r) (codeOf x) ≡ same (patternAt r) x
+row-same r x l d =
+    same-test _ _ (λ e. eq-same (patternAt r) x (code-tells (row-decimal r l) d (sym (row-code r) ∙ eqb-true _ _ e)))
+    (λ e. eq-eqb _ _ (row-code r ∙ ap codeOf (same-eq (patternAt r) x e)))

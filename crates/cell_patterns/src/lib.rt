@@ -18,7 +18,7 @@ ghost use lib.ListN.{length, getD};
 ghost use lib.Dec.{eqb};
 ghost use Rattle.lists.specs.Bool.{_and_};
 ghost use Rattle.lists.specs.Bounded.{all};
-ghost use Rattle.grid.specs.Cells.{distinct, has};
+ghost use Rattle.grid.specs.Cells.{distinct};
 ghost use Rattle.grid.specs.Rows.{entity, cellIn};
 ghost use Rattle.grid.specs.RowsFacts.{Padded};
 ghost use Rattle.grid.specs.Mesh.{mostCells, mostVertices};
@@ -111,32 +111,24 @@ fn triangles_pattern(rows: &[u32], i: usize, j: usize) -> u32
     pattern_at(a, b, c)
 }
 
-// Whether x is a vertex of triangle i.
-fn has_vertex(rows: &[u32], i: usize, x: u32) -> bool
-    requires { ⌜ 4 * i + 4 ≤ length (now rows) ⌝ }
-    ensures { λ r. ⌜ r ≡ has (three (now (rows .entry)) i) x ⌝ }
-{
-    let at = 4 * i;
-    (rows[at] == x) | (rows[at + 1] == x) | (rows[at + 2] == x)
-}
-
-// Check 7 of triangles i and j: the lists of two that share three vertices must be the same.
+// Check 7 of triangles i and j: the lists of two that share three vertices must be the same. The fourth number of row i is no vertex of j.
 fn triangles_right(rows: &[u32], i: usize, j: usize) -> bool
     requires { ⌜ (4 * i + 4 ≤ length (now rows)) × (4 * j + 4 ≤ length (now rows)) ⌝ }
     requires { ⌜ (distinct (three (now rows) i) ≡ true) × (distinct (three (now rows) j) ≡ true) ⌝ }
+    requires { ⌜ ((p : ℕ) → p < 3 → entity (now rows) j p ≡ entity (now rows) i 3 → ⊥) ⌝ }
     ensures { λ r. ⌜ r ≡ cellsRight (three (now (rows .entry)) i) (three (now (rows .entry)) j) ⌝ }
 {
     let at = 4 * j;
     let x = rows[at];
-    if !has_vertex(rows, i, x) {
+    if !has_entity(rows, i, x) {
         return true;
     }
     let y = rows[at + 1];
-    if !has_vertex(rows, i, y) {
+    if !has_entity(rows, i, y) {
         return true;
     }
     let z = rows[at + 2];
-    if !has_vertex(rows, i, z) {
+    if !has_entity(rows, i, z) {
         return true;
     }
     let own = 4 * i;
@@ -208,7 +200,7 @@ pub fn smallest_shared(rows: &[u32], top: usize, i: usize, j: usize) -> usize
 // Whether cells i and j share no vertex or have a pattern.
 fn pair_right(rows: &[u32], none: u32, i: usize, j: usize) -> bool
     requires { ⌜ (4 * i + 4 ≤ length (now rows)) × (4 * j + 4 ≤ length (now rows)) ⌝ }
-    requires { ⌜ (distinctIn none (now rows) i ≡ true) × (distinctIn none (now rows) j ≡ true) ⌝ }
+    requires { ⌜ Apart none (now rows) ⌝ }
     ensures { λ r. ⌜ r ≡ pairRight none (now (rows .entry)) i j ⌝ }
 {
     if both_triangles(rows, none, i, j) {
@@ -268,7 +260,6 @@ fn sorted_right(rows: &[u32], none: u32, order: &mut [u32], ends: &mut [usize]) 
     requires { ⌜ Zeros (now ends) ⌝ }
     requires { ⌜ (length (now rows) ≡ 4 * (length (now rows) / 4)) × (length (now rows) < 2 ^ 32) × (length (now order) ≡ length (now rows)) × (length (now ends) ≡ none + 1) ⌝ }
     requires { ⌜ Apart none (now rows) ⌝ }
-    requires { ⌜ Padded none (now rows) ⌝ }
     ensures { λ r. ⌜ r ≡ patternsIn none (length (now (rows .entry)) / 4) (now (rows .entry)) ⌝ }
 {
     by_key(rows, 4, ends, order);

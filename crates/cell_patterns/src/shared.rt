@@ -5,8 +5,8 @@ use pattern_table::table_row;
 ghost use mathlib.Core.Path.{_≡_};
 ghost use mathlib.Core.Bool.{true};
 ghost use mathlib.Core.List.{[], _∷_, _++_};
-ghost use Prim.Native.Nat.{_+_, _≤_, _<_};
-ghost use lib.ListN.{length};
+ghost use Prim.Native.Nat.{_+_, _*_, _≤_, _<_};
+ghost use lib.ListN.{length, getD};
 ghost use lib.Dec.{ltb};
 ghost use Rattle.lists.specs.Range.{when};
 ghost use Rattle.grid.specs.Cells.{distinct, endsOf, sameTwo};
@@ -14,7 +14,8 @@ ghost use Rattle.cell_pairs.specs.Matches.{_↔_, matches};
 ghost use Rattle.cell_pairs.specs.Patterns.{cellsPattern};
 ghost use Rattle.cell_pairs.specs.Table.{pattern, numberOf, blockStart, edgeJoining, inBlock};
 ghost use Rattle.cell_patterns.specs.Flat.{cellsRight};
-ghost use Rattle.cell_patterns.specs.TableNumbers.{placeIn, listed, samePlaces, isRow};
+ghost use Rattle.pattern_table.specs.Numbers.{codeOf};
+ghost use Rattle.cell_patterns.specs.Shared.{placeIn, listed};
 ghost use Rattle.cell_patterns.specs.SharedFacts.{Small};
 
 // The shared vertices of two cells: how many, and the places of each in the test cell and in the trial cell.
@@ -71,30 +72,38 @@ fn matches_of(test: &[u32], trial: &[u32]) -> Shared
     s
 }
 
-// Whether the places of a row of the table are those of the shared vertices.
-fn same_places(row: [u32; 11], s: Shared) -> bool
-    requires { ⌜ s .pairs ≤ 4 ⌝ }
-    ensures { λ b. ⌜ b ≡ samePlaces row (s .pairs) (s .tests) (s .trials) ⌝ }
+// The places of shared vertex i as two digits.
+fn digits(s: Shared, i: usize) -> u64
+    requires { ⌜ i < 4 ⌝ }
+    requires { ⌜ Small (s .tests) (s .trials) ⌝ }
+    ensures { λ r. ⌜ (r ≡ 10 * getD (s .tests) i 0 + getD (s .trials) i 0) × (r < 100) ⌝ }
 {
-    let n = s.pairs as usize;
-    for i in 0..n {
-        let agree = (row[3 + 2 * i] == s.tests[i]) & (row[4 + 2 * i] == s.trials[i]);
-        if !agree {
-            return false;
-        }
-    }
-    true
+    (10 * s.tests[i] + s.trials[i]) as u64
 }
 
-// Whether row r is of the test kind n, the trial kind k and the shared vertices. The table is read once.
-fn is_row(r: usize, n: u32, k: u32, s: Shared) -> bool
-    requires { ⌜ (r < 149) × (s .pairs ≤ 4) ⌝ }
-    ensures { λ b. ⌜ b ≡ isRow r n k (s .pairs) (s .tests) (s .trials) ⌝ }
+// The code of the test kind n, the trial kind k and the shared vertices, as a row of the table has it.
+fn code_of(n: u32, k: u32, s: Shared) -> u64
+    requires { ⌜ (n ≤ 4) × (k ≤ 4) × (s .pairs ≤ 4) ⌝ }
+    requires { ⌜ Small (s .tests) (s .trials) ⌝ }
+    ensures { λ r. ⌜ r ≡ codeOf (pattern n k (listed (s .pairs) (s .tests) (s .trials))) ⌝ }
 {
-    let row = table_row(r);
-    let kinds = (row[0] == n) & (row[1] == k);
-    let pairs = row[2] == s.pairs;
-    kinds & (pairs & same_places(row, s))
+    let kinds = (10 * n + k) as u64;
+    if s.pairs == 0 {
+        return kinds;
+    }
+    let one = 100 * kinds + digits(s, 0);
+    if s.pairs == 1 {
+        return one;
+    }
+    let two = 100 * one + digits(s, 1);
+    if s.pairs == 2 {
+        return two;
+    }
+    let three = 100 * two + digits(s, 2);
+    if s.pairs == 3 {
+        return three;
+    }
+    100 * three + digits(s, 3)
 }
 
 // Where the block of test kind n and trial kind k begins.
@@ -198,7 +207,7 @@ fn in_block(n: u32, k: u32, s: Shared) -> u32
     3 * (n * k)
 }
 
-// The number of the pattern of two kinds and their shared vertices: the formula's, if they stand in the table there, else NO_PATTERN.
+// The number of the pattern of two kinds and their shared vertices: the formula's, if the table has their code there, else NO_PATTERN.
 fn number_of(n: u32, k: u32, s: Shared) -> u32
     requires { ⌜ (3 ≤ n) × (n ≤ 4) × (3 ≤ k) × (k ≤ 4) × (s .pairs ≤ 4) ⌝ }
     requires { ⌜ Small (s .tests) (s .trials) ⌝ }
@@ -206,7 +215,7 @@ fn number_of(n: u32, k: u32, s: Shared) -> u32
 {
     let r = block_start(n, k) + in_block(n, k, s);
     if r < NO_PATTERN {
-        if is_row(r as usize, n, k, s) {
+        if table_row(r as usize) == code_of(n, k, s) {
             return r;
         }
     }

@@ -1,22 +1,20 @@
--- Laws of the kinds of the cells: what check 26 says of them, that the kind of a cell is present, and once; and the kinds present of triangles.
--- Assumes nothing.
+-- Laws of the kinds of the cells: what check 26 says of them, and that the kind of a cell is present, and once. Assumes nothing.
 use Prim.Native.Nat.{ℕ, zero, suc, _+_, _*_, _<_, _≤_}
 use native.Mathlib.Nat.{add-mul, one-mul, zero-mul, not-suc-le-zero, le-of-suc-le-suc}
 use native.Mathlib.Omega.{arith}
 use mathlib.Core.Bool.{Bool, true, false}
 use mathlib.Core.Path.{_≡_, refl, sym, ap, ap₂, subst, _∙_}
 use mathlib.Core.Logic.{_⊎_, inl, inr, ⊎-elim}
-use mathlib.Core.List.{List, [], _∷_, flatMap}
-use lib.ListN.{length, getD, length-replicate, getD-replicate}
+use mathlib.Core.List.{List, [], _∷_}
+use lib.ListN.{length, getD}
 use lib.Dec.{eqb, ltb}
 use borrow.Author.Tests.{lt-ltb, eq-eqb, ne-eqb, eqb-true}
 use Rattle.lists.specs.Bool.{_and_, _or_, every, every-at, every-fails, every-of, _also_, end, and-left, and-right, and-both, and-no-left, or-left, or-right, same-test}
 use Rattle.lists.specs.Bounded.{all, all-at, all-of}
-use Rattle.lists.specs.Range.{filter}
 use Rattle.lists.specs.Total.{total, gate, total-filter}
 use Rattle.grid.specs.Cells.{before}
 use Rattle.grid.specs.CellsFacts.{before-more, before-most}
-use Rattle.grid.specs.Mesh.{triangles, cellsOf, kindsPresent, kindsRight, kindsMatch}
+use Rattle.grid.specs.Mesh.{cellsOf, kindsPresent, kindsRight, kindsMatch}
 use Rattle.grid.specs.Facts.{kinds-long, kind-known}
 
 -- each of C cells has a kind, and it is 3 or 4
@@ -143,28 +141,6 @@ kind-once ks k x c h = total-filter (λ n. gate (eqb k n) x) (λ n. ltb 0 (cells
     go : (k ≡ 3) ⊎ (k ≡ 4) → total (λ n. gate (ltb 0 (cellsOf ks n)) (gate (eqb k n) x)) (3 ∷ 4 ∷ []) ≡ x
     go (inl e) = rw e (first-alone (ltb 0 (cellsOf ks 3)) (ltb 0 (cellsOf ks 4)) x (here 3 e))
     go (inr e) = rw e (second-alone (ltb 0 (cellsOf ks 3)) (ltb 0 (cellsOf ks 4)) x (here 4 e))
-
--- ---- triangles alone
-
-no-quads : (C : ℕ) → cellsOf (triangles C) 4 ≡ 0
-unfolding cellsOf total
-no-quads zero = refl
-no-quads (suc C) = omega (arith, no-quads C)
-
--- of at least one triangle, kind 3 alone is present
-pub triangles-present : (C : ℕ) → 1 ≤ C → kindsPresent (triangles C) ≡ 3 ∷ []
-unfolding kindsPresent filter flatMap
-triangles-present C h =
-    let some : ltb 0 (cellsOf (triangles C) 3) ≡ true =
-    lt-ltb 0 _ (kind-present (triangles C) 3 0 (omega (arith, length-replicate {A = ℕ} C 3)) (getD-replicate C 0 3 0 h)) in
-    let none : ltb 0 (cellsOf (triangles C) 4) ≡ false = ap (ltb 0) (no-quads C) in
-    rw (some, none)
-
--- the first kind present of triangles is 3, also where there are none
-pub triangles-first : (C : ℕ) → getD (kindsPresent (triangles C)) 0 3 ≡ 3
-unfolding kindsPresent cellsOf filter flatMap total
-triangles-first zero = refl
-triangles-first (suc C) = ap (λ (l : List ℕ). getD l 0 3) (triangles-present (suc C) (omega arith))
 
 -- ---- the kind list of a run, as the code reads it
 

@@ -124,14 +124,15 @@ unfolding before
 fours ks zero = refl
 fours ks (suc i) = omega (arith, fours ks i)
 
-three-long : (xs : List ℕ) → length xs ≡ 3 → xs ≡ getD xs 0 0 ∷ getD xs 1 0 ∷ getD xs 2 0 ∷ []
+-- a list of three, and of four
+pub three-long : (xs : List ℕ) → length xs ≡ 3 → xs ≡ getD xs 0 0 ∷ getD xs 1 0 ∷ getD xs 2 0 ∷ []
 three-long [] e = absurd (omega arith)
 three-long (a ∷ []) e = absurd (omega arith)
 three-long (a ∷ b ∷ []) e = absurd (omega arith)
 three-long (a ∷ b ∷ c ∷ []) e = refl
 three-long (a ∷ b ∷ c ∷ d ∷ xs) e = absurd (omega arith)
 
-four-long : (xs : List ℕ) → length xs ≡ 4 → xs ≡ getD xs 0 0 ∷ getD xs 1 0 ∷ getD xs 2 0 ∷ getD xs 3 0 ∷ []
+pub four-long : (xs : List ℕ) → length xs ≡ 4 → xs ≡ getD xs 0 0 ∷ getD xs 1 0 ∷ getD xs 2 0 ∷ getD xs 3 0 ∷ []
 four-long [] e = absurd (omega arith)
 four-long (a ∷ []) e = absurd (omega arith)
 four-long (a ∷ b ∷ []) e = absurd (omega arith)

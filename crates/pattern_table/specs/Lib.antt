@@ -1,2 +1,2 @@
--- The table of patterns as rows of numbers (`Numbers`).
+-- The table of patterns as numbers, one a row (`Numbers`).
 pub mod Numbers

@@ -40,7 +40,7 @@ sorted-right-requires c κs =
         scratch-zeros (c .before .before .before .args .top + 1) (mostVertices + 1) (omega (arith, pre .0 .2)),
         (
           (omega (arith, pre .0), omega (arith, pre .0), scratch _ (4 * mostCells) (omega (arith, pre .0)) ∙ sym (pre .0 .0), long),
-          (record { apart = λ i l. pre .1 .1 .1 i (omega (arith, pre .0 .0)) }, pre .1 .1 .0),
+          record { apart = λ i l. pre .1 .1 .1 i (omega (arith, pre .0 .0)); padded = pre .1 .1 .0 },
         ),
       ),
     )

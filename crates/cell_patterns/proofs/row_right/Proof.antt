@@ -33,7 +33,7 @@ pair-right-requires : tie.Need-pair-right-requires Inv-loop μ-loop
 pair-right-requires c κs =
     let pre = c .before .before .before .before .before .before .pre in
     let cell : 4 * c .wide .result + 4 ≤ length (c .before .before .before .before .before .before .args .rows .now) = rw (c .wide .ensures) (pre .0 .cell _ (c .before .before .loop-test .taken)) in
-    ((pre .1 .1, cell), (pre .1 .0 .apart _ (pre .1 .1), pre .1 .0 .apart _ cell))
+    ((pre .1 .1, cell), pre .1 .0)
 
 returns : tie.Need-returns Inv-loop μ-loop
 returns c = sym (all-fails _ _ _ (c .before .before .before .before .loop-test .taken) (turned (rw (c .before .before .wide .ensures) at (c .before .pair-right .ensures)) (c .if1 .taken)))

@@ -14,7 +14,7 @@ groups-right-requires : tie.Need-groups-right-requires
 groups-right-requires c κs =
     let pre = c .before .before .before .before .before .before .before .before .before .before .before .before .pre in
     let g = c .before .before .before .before .before .before .by-key .ensures in
-    (grouped-cut g (λ v _. group-cells _ v _ (pre .1 .1 .0 .0)), (pre .1 .1 .1 .0, omega (arith, g .size, pre .1 .1 .0 .3)))
+    (grouped-cut g (λ v _. group-cells _ v _ (pre .1 .1 .0 .0)), (pre .1 .1 .1, omega (arith, g .size, pre .1 .1 .0 .3)))
 
 same-length : tie.Need-same-length
 same-length c = search needs
@@ -25,7 +25,7 @@ same-length-2 c = search needs
 returns : tie.Need-returns
 returns c =
     let pre = c .before .before .before .before .before .before .before .before .before .before .before .before .before .pre in
-    parts-all _ _ _ (pre .1 .1 .0 .0) (pre .1 .1 .1 .1) (pre .1 .1 .0 .3) (pre .0) (c .before .before .before .before .before .before .before .by-key .ensures) (c .groups-right .ensures)
+    parts-all _ _ _ (pre .1 .1 .0 .0) (pre .1 .1 .1 .padded) (pre .1 .1 .0 .3) (pre .0) (c .before .before .before .before .before .before .before .by-key .ensures) (c .groups-right .ensures)
 
 pub sorted-right-spec : {M : Type 1} → statement M
 sorted-right-spec =

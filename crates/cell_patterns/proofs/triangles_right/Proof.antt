@@ -1,8 +1,8 @@
 -- `cell_patterns::triangles_right` meets its contract: each return has the tests that led there. Assumes nothing.
 use mathlib.Core.Path.{sym, _∙_}
 use native.Mathlib.Nat.{add-zero}
-use Rattle.lists.specs.Bool.{_and_, every-fails, turned}
-use Rattle.cell_patterns.specs.PatternFacts.{few-right, first-missing, none-missing}
+use Rattle.lists.specs.Bool.{_and_}
+use Rattle.cell_patterns.specs.PatternFacts.{first-missing, second-missing, third-missing, none-missing}
 use borrow.Author.Needs.{needs}
 use Rattle.cell_patterns.proofs.triangles_right.Statement.{statement}
 use Rattle.cell_patterns.proofs.triangles_right.Tie as tie
@@ -16,11 +16,11 @@ mul-x c = search needs
 shared-slice-read-x : tie.Need-shared-slice-read-x
 shared-slice-read-x c = search needs
 
-has-vertex-requires : tie.Need-has-vertex-requires
-has-vertex-requires c κs = search needs
+has-entity-requires : tie.Need-has-entity-requires
+has-entity-requires c κs = search needs
 
 returns : tie.Need-returns
-returns c = let s = c .before .before .before .before in first-missing (s .args .rows .now) (s .args .i) (s .args .j) (s .pre .1 .0) (s .pre .1 .1) (c .before .has-vertex .ensures) (c .if1 .taken)
+returns c = let s = c .before .before .before .before in first-missing (s .args .rows .now) (s .args .i) (s .args .j) (s .pre .1 .0 .0) (s .pre .1 .0 .1) (s .pre .1 .1) (c .before .has-entity .ensures) (c .if1 .taken)
 
 add-y : tie.Need-add-y
 add-y c = search needs
@@ -31,11 +31,11 @@ mul-y c = search needs
 shared-slice-read-y : tie.Need-shared-slice-read-y
 shared-slice-read-y c = search needs
 
-has-vertex-requires-2 : tie.Need-has-vertex-requires-2
-has-vertex-requires-2 c κs = search needs
+has-entity-requires-2 : tie.Need-has-entity-requires-2
+has-entity-requires-2 c κs = search needs
 
 returns-2 : tie.Need-returns-2
-returns-2 c = let s = c .before .before .before .before .before .before .before in sym (few-right (s .args .rows .now) (s .args .i) (s .args .j) (s .pre .1 .0) (s .pre .1 .1) (every-fails _ 1 (turned (c .before .has-vertex2 .ensures) (c .if2 .taken))))
+returns-2 c = let s = c .before .before .before .before .before .before .before in second-missing (s .args .rows .now) (s .args .i) (s .args .j) (s .pre .1 .0 .0) (s .pre .1 .0 .1) (s .pre .1 .1) (c .before .has-entity2 .ensures) (c .if2 .taken)
 
 add-z : tie.Need-add-z
 add-z c = search needs
@@ -46,11 +46,11 @@ mul-z c = search needs
 shared-slice-read-z : tie.Need-shared-slice-read-z
 shared-slice-read-z c = search needs
 
-has-vertex-requires-3 : tie.Need-has-vertex-requires-3
-has-vertex-requires-3 c κs = search needs
+has-entity-requires-3 : tie.Need-has-entity-requires-3
+has-entity-requires-3 c κs = search needs
 
 returns-3 : tie.Need-returns-3
-returns-3 c = let s = c .before .before .before .before .before .before .before .before .before .before in sym (few-right (s .args .rows .now) (s .args .i) (s .args .j) (s .pre .1 .0) (s .pre .1 .1) (every-fails _ 2 (turned (c .before .has-vertex3 .ensures) (c .if3 .taken))))
+returns-3 c = let s = c .before .before .before .before .before .before .before .before .before .before in third-missing (s .args .rows .now) (s .args .i) (s .args .j) (s .pre .1 .0 .0) (s .pre .1 .0 .1) (s .pre .1 .1) (c .before .has-entity3 .ensures) (c .if3 .taken)
 
 mul-own : tie.Need-mul-own
 mul-own c = search needs
@@ -83,8 +83,8 @@ returns-4 : tie.Need-returns-4
 unfolding _and_
 returns-4 c =
     let s = c .before .before .before .before .before .before .before .before .before .before .before .before .before in
-    let e = none-missing (s .args .rows .now) (s .args .i) (s .args .j) (s .pre .1 .0) (s .pre .1 .1) (c .before .before .before .before .before .before .before .before .before .before .has-vertex .ensures) (c .before .before .before .before .before .before .before .before .before .if1 .left) (c .before .before .before .before .before .before .before .has-vertex2 .ensures) (c .before .before .before .before .before .before .if2 .left) in
-    sym (e (c .before .before .before .before .has-vertex3 .ensures) (c .before .before .before .if3 .left) ∙ simp add-zero)
+    let e = none-missing (s .args .rows .now) (s .args .i) (s .args .j) (s .pre .1 .0 .0) (s .pre .1 .0 .1) (s .pre .1 .1) (c .before .before .before .before .before .before .before .before .before .before .has-entity .ensures) (c .before .before .before .before .before .before .before .before .before .if1 .left) (c .before .before .before .before .before .before .before .has-entity2 .ensures) (c .before .before .before .before .before .before .if2 .left) in
+    sym (e (c .before .before .before .before .has-entity3 .ensures) (c .before .before .before .if3 .left) ∙ simp add-zero)
 
 pub triangles-right-spec : {M : Type 1} → statement M
 triangles-right-spec =
@@ -93,17 +93,17 @@ triangles-right-spec =
     mul-at
     mul-x
     shared-slice-read-x
-    has-vertex-requires
+    has-entity-requires
     returns
     add-y
     mul-y
     shared-slice-read-y
-    has-vertex-requires-2
+    has-entity-requires-2
     returns-2
     add-z
     mul-z
     shared-slice-read-z
-    has-vertex-requires-3
+    has-entity-requires-3
     returns-3
     mul-own
     mul-result

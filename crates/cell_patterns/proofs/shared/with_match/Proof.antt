@@ -1,6 +1,6 @@
 -- `cell_patterns::shared::with_match` meets its contract. Assumes nothing.
 use native.Mathlib.Omega.{arith}
-use Rattle.cell_patterns.specs.TableNumbers.{listed}
+use Rattle.cell_patterns.specs.Shared.{listed}
 use Rattle.cell_patterns.specs.SharedFacts.{match-skipped, match-kept, small-more}
 use borrow.Author.Needs.{needs}
 use Rattle.cell_patterns.proofs.shared.with_match.Statement.{statement}
