@@ -1,16 +1,17 @@
 -- Laws of the kinds of the cells: what check 26 says of them, and that the kind of a cell is present, and once. Assumes nothing.
-use Prim.Native.Nat.{ℕ, zero, suc, _+_, _*_, _<_, _≤_}
+use Prim.Native.Nat.{ℕ, zero, suc, _+_, _-_, _*_, _<_, _≤_}
 use native.Mathlib.Nat.{add-mul, one-mul, zero-mul, not-suc-le-zero, le-of-suc-le-suc}
 use native.Mathlib.Omega.{arith}
-use mathlib.Core.Bool.{Bool, true, false}
+use mathlib.Core.Bool.{Bool, true, false, _&&_}
 use mathlib.Core.Path.{_≡_, refl, sym, ap, ap₂, subst, _∙_}
 use mathlib.Core.Logic.{_⊎_, inl, inr, ⊎-elim}
 use mathlib.Core.List.{List, [], _∷_}
-use lib.ListN.{length, getD}
+use lib.ListN.{length, getD, take, drop, length-drop}
+use lib.Seq.{getD-drop, take-all}
 use lib.Dec.{eqb, ltb}
 use borrow.Author.Tests.{lt-ltb, eq-eqb, ne-eqb, eqb-true}
 use Rattle.lists.specs.Bool.{_and_, _or_, every, every-at, every-fails, every-of, _also_, end, and-left, and-right, and-both, and-no-left, or-left, or-right, same-test}
-use Rattle.lists.specs.Bounded.{all, all-at, all-of}
+use Rattle.lists.specs.Bounded.{all, all-at, all-of, all-next, all-ext, all-sum, lt-or-le}
 use Rattle.lists.specs.Total.{total, gate, total-filter}
 use Rattle.grid.specs.Cells.{before}
 use Rattle.grid.specs.CellsFacts.{before-more, before-most}
@@ -194,3 +195,59 @@ module _ (C : ℕ) (ks : List ℕ) where
         back e =
             let each : (i : ℕ) → i < length ks → getD ks i 0 ≡ 4 = λ i l. eqb-true _ _ (all-at (length ks) (λ i. eqb (getD ks i 0) 4) (and-right (eqb q C) _ e) i l) in
             every-of (right (λ i l. inr (each i l)) also eq-eqb 0 _ (sym (alone 4 ks each 3)) also eq-eqb q _ (eqb-true q C (and-left _ _ e) ∙ sym (alone 4 ks each 4 ∙ long)) also end)
+
+-- ---- a list read in four quarters
+
+-- what is read of turn k
+abbrev pub quarters : (ℕ → Bool) → ℕ → ℕ → Bool
+quarters f n k = f k and (f (n + k) and (f (2 * n + k) and f (3 * n + k)))
+
+-- a turn more
+pub quarters-more : (f : ℕ → Bool) (n i : ℕ) {same : Bool} → same ≡ all i (quarters f n) → (same && f i && f (n + i) && f (2 * n + i) && f (3 * n + i)) ≡ all (i + 1) (quarters f n)
+unfolding _and_
+quarters-more f n i {same} e = go same (f i) (f (n + i)) (f (2 * n + i)) _ ∙ ap (λ (b : Bool). b and quarters f n i) e ∙ sym (all-next i (quarters f n))
+  where
+    go : (s a b c d : Bool) → (s && a && b && c && d) ≡ (s && (a && (b && (c && d))))
+    go true true true c d = refl
+    go true true false c d = refl
+    go true false b c d = refl
+    go false a b c d = refl
+
+module _ (f : ℕ → Bool) (n : ℕ) (e : all n (quarters f n) ≡ true) where
+  read-at : (k : ℕ) → k < n → quarters f n k ≡ true
+  read-at k l = all-at n (quarters f n) e k l
+
+  placed : {j k : ℕ} → j ≡ k → f j ≡ true → f k ≡ true
+  placed p q = subst (λ (i : ℕ). f i ≡ true) p q
+
+  all-read : (k : ℕ) → k < 4 * n → f k ≡ true
+  all-read k l =
+      ⊎-elim (λ a. and-left _ _ (read-at k a))
+      (λ a. ⊎-elim (λ b. placed {j = n + (k - n)} (omega arith) (and-left _ _ (and-right _ _ (read-at (k - n) (omega arith)))))
+      (λ b. ⊎-elim (λ d. placed {j = 2 * n + (k - 2 * n)} (omega arith) (and-left _ _ (and-right _ _ (and-right _ _ (read-at (k - 2 * n) (omega arith))))))
+      (λ d. placed {j = 3 * n + (k - 3 * n)} (omega arith) (and-right _ _ (and-right _ _ (and-right _ _ (read-at (k - 3 * n) (omega arith))))))
+      (lt-or-le k (3 * n)))
+      (lt-or-le k (2 * n)))
+      (lt-or-le k n)
+
+-- all turns read all
+pub quarters-all : (f : ℕ → Bool) (n : ℕ) → all n (quarters f n) ≡ all (4 * n) f
+quarters-all f n = same-test (all n (quarters f n)) (all (4 * n) f) (λ e. all-of (4 * n) f (all-read f n e)) back
+  where
+    back : all (4 * n) f ≡ true → all n (quarters f n) ≡ true
+    back e =
+        all-of n (quarters f n)
+        (λ k l. and-both _ _ (all-at (4 * n) f e k (omega arith)) (and-both _ _ (all-at (4 * n) f e (n + k) (omega arith))
+        (and-both _ _ (all-at (4 * n) f e (2 * n + k) (omega arith)) (all-at (4 * n) f e (3 * n + k) (omega arith)))))
+
+-- and what is left behind them
+pub quarters-rest : (g : ℕ → Bool) (xs : List ℕ) (n : ℕ) → 4 * n ≤ length xs
+    → let rest = take (length xs - 4 * n) (drop (4 * n) xs) in (all (4 * n) (λ i. g (getD xs i 0)) and all (length rest) (λ i. g (getD rest i 0))) ≡ all (length xs) (λ i. g (getD xs i 0))
+quarters-rest g xs n l =
+    let long : length xs - 4 * n ≡ length (drop (4 * n) xs) = sym (length-drop (4 * n) xs) in
+    let sum : length xs ≡ 4 * n + (length xs - 4 * n) = omega arith in
+    ap (λ (b : Bool). all (4 * n) (λ i. g (getD xs i 0)) and b)
+    (ap (λ (rest : List ℕ). all (length rest) (λ i. g (getD rest i 0))) (take-all (length xs - 4 * n) (drop (4 * n) xs) (omega (arith, long)))
+    ∙ ap (λ (m : ℕ). all m (λ i. g (getD (drop (4 * n) xs) i 0))) (sym long)
+    ∙ all-ext (length xs - 4 * n) _ _ (λ k h. ap g (getD-drop (4 * n) xs k 0)))
+    ∙ sym (ap (λ (m : ℕ). all m (λ i. g (getD xs i 0))) sum ∙ all-sum (4 * n) (length xs - 4 * n) (λ i. g (getD xs i 0)))

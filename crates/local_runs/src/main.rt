@@ -91,7 +91,9 @@ fn touching_agrees(
     if refusal != 0 {
         return false;
     }
-    let local = cell_pair_assemblers::touching_matrix(
+    let mut entries = [0.0; 100];
+    cell_pair_assemblers::touching_matrix(
+        &mut entries,
         f,
         m,
         n,
@@ -103,7 +105,6 @@ fn touching_agrees(
         test_geometry,
         trial_geometry,
     );
-    let entries = local.entries;
     same_entries(&entries, m, n, words)
 }
 
@@ -145,7 +146,9 @@ fn distant_agrees(
     if refusal != 0 {
         return false;
     }
-    let local = cell_pair_assemblers::distant_matrix(
+    let mut entries = [0.0; 100];
+    cell_pair_assemblers::distant_matrix(
+        &mut entries,
         f,
         m,
         n,
@@ -159,7 +162,6 @@ fn distant_agrees(
         test_geometry,
         trial_geometry,
     );
-    let entries = local.entries;
     same_entries(&entries, m, n, words)
 }
 

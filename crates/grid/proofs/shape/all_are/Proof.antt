@@ -1,49 +1,47 @@
--- `grid::shape::all_are` meets its contract. The invariant: what is found of the cells passed. Assumes nothing.
-use Prim.Native.Nat.{_-_, _≤_}
+-- `grid::shape::all_are` meets its contract: the quarters and what is left behind them are all. Assumes nothing.
 use native.Mathlib.Omega.{arith}
-use mathlib.Core.Path.{_≡_, sym}
-use lib.ListN.{length, getD}
+use Prim.Native.Nat.{_/_}
+use lib.ListN.{length}
 use lib.Dec.{eqb}
 use Rattle.lists.specs.Bool.{_and_}
-use Rattle.lists.specs.Bounded.{all, all-none, all-next}
+use Rattle.grid.specs.KindsFacts.{quarters-rest}
 use borrow.Author.Needs.{needs}
 use Rattle.grid.proofs.shape.all_are.Statement.{statement}
 use Rattle.grid.proofs.shape.all_are.Tie as tie
 
-abbrev Inv-loop : tie.InvT-loop
-Inv-loop kinds kind same₀ i₀ same i = (i ≤ length kinds) × (same ≡ all i (λ k. eqb (getD kinds k 0) kind))
+mul-end : tie.Need-mul-end
+mul-end c = search needs
 
-abbrev μ-loop : tie.MeasureT-loop
-μ-loop kinds kind same₀ i₀ same i = length kinds - i
+quarters-are-requires : tie.Need-quarters-are-requires
+quarters-are-requires c κs = search needs
 
-loop-holds : tie.Need-loop-holds Inv-loop μ-loop
-loop-holds c = (search needs, sym (all-none _))
+sub-rest-are : tie.Need-sub-rest-are
+sub-rest-are c = search needs
 
-shared-slice-read-same : tie.Need-shared-slice-read-same Inv-loop μ-loop
-shared-slice-read-same c = search needs
+part-rest-are-start : tie.Need-part-rest-are-start
+part-rest-are-start c = search needs
 
-add-i : tie.Need-add-i Inv-loop μ-loop
-add-i c = search needs
+part-rest-are-end : tie.Need-part-rest-are-end
+part-rest-are-end c = search needs
 
-loop-less : tie.Need-loop-less Inv-loop μ-loop
-loop-less c = search needs
+rest-are-requires : tie.Need-rest-are-requires
+rest-are-requires c κs = search needs
 
-loop-again : tie.Need-loop-again Inv-loop μ-loop
+returns : tie.Need-returns
 unfolding _and_
-loop-again c = (search needs, rw (c .before .before .loop .inv .1) (sym (all-next _ _)))
-
-returns : tie.Need-returns Inv-loop μ-loop
-returns c = let e : c .before .loop .i ≡ length (c .before .before .args .kinds .now) = omega arith in rw e at (c .before .loop .inv .1)
+returns c =
+    let start = c .before .before .before .before in
+    let kinds = start .args .kinds .now in
+    rw (c .rest-are .ensures, c .before .before .quarters-are .ensures) (quarters-rest (λ x. eqb x (start .args .kind)) kinds (length kinds / 4) (omega arith))
 
 pub all-are-spec : {M : Type 1} → statement M
 all-are-spec =
     tie.close
     (tie.spec
-    Inv-loop
-    μ-loop
-    loop-holds
-    shared-slice-read-same
-    add-i
-    loop-less
-    loop-again
+    mul-end
+    quarters-are-requires
+    sub-rest-are
+    part-rest-are-start
+    part-rest-are-end
+    rest-are-requires
     returns)
