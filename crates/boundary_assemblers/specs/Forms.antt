@@ -6,7 +6,6 @@ use lib.ListN.{getD, take, drop}
 use Rattle.lists.specs.Refusals.{refusal}
 use Rattle.grid.specs.Cells.{before}
 use Rattle.function.specs.declared.Elements.{Elements}
-use Rattle.cell_pairs.specs.declared.WorkRecord.{WorkRecord}
 use Rattle.function.specs.Elements.{cellDim}
 use Rattle.runs.specs.Runs as Runs
 use Rattle.runs.specs.Runs.{Plan, Reply, found, accepted, recordOf, stateChecks}
@@ -45,13 +44,14 @@ cellBehind es k i quads = record { kind = k; start = (i - quads) * cellDim es 3 
 abbrev pub dofsAt : List ℕ → Cell → List ℕ
 dofsAt dofs c = take (c .dim) (drop (c .start) dofs)
 
--- a record, and its two cells
-abbrev pub pairOf : List ℕ → Runs.Run → WorkRecord → Pair
-pairOf ks r e = record { item = e; test = cellAt ks (r .numbers .test) (e .test); trial = cellAt ks (r .numbers .trial) (e .trial) }
-
--- those of record p
+-- record p, and its two cells
 abbrev pub pairAt : Runs.Run → Plan → Pair
-pairAt r l = pairOf (l .kinds) r (recordOf r l)
+pairAt r l =
+    record {
+      item = recordOf r l;
+      test = cellAt (l .kinds) (r .numbers .test) (recordOf r l .test);
+      trial = cellAt (l .kinds) (r .numbers .trial) (recordOf r l .trial);
+    }
 
 -- what the checks of the state hand back, by the refusal's number: 0 is no refusal
 unfoldable pub checked : ℕ → Pair → Checked

@@ -29,7 +29,7 @@ use Rattle.runs.specs.CellDofs.{kind-dim}
 use Rattle.boundary_assemblers.specs.declared.Cell.{Cell}
 use Rattle.boundary_assemblers.specs.declared.Pair.{Pair}
 use Rattle.boundary_assemblers.specs.declared.Checked.the-variants.{Passed, Refused}
-use Rattle.boundary_assemblers.specs.Forms.{cellAt, cellBehind, dofsAt, pairOf, pairAt, checked, stateChecked}
+use Rattle.boundary_assemblers.specs.Forms.{cellAt, cellBehind, dofsAt, pairAt, checked, stateChecked}
 
 -- the most pairs: C·C
 abbrev pub mostPairs : ℕ
@@ -113,6 +113,10 @@ matched n ks few k =
       dims = kind-dim n ks k;
     }
 
+pub kinds-matched : (r : Run) (l : Plan) → rangesRight r ≡ true → (kindsFit r l and planRight r l) ≡ true → Matched (r .numbers) (l .kinds)
+unfolding kindsFit
+kinds-matched r l a k = matched (r .numbers) (l .kinds) (ranges r a .cells) (and-left _ _ k)
+
 module _ {n : PlanNumbers} {ks : List ℕ} (h : Matched n ks) where
   pub few-kinds : (n .triangles ≤ mostCells) × (n .quads ≤ mostCells)
   few-kinds = (omega (arith, h .triangles, kinds-few ks 3 (n .cells), h .cells), omega (arith, h .quads, kinds-few ks 4 (n .cells), h .cells))
@@ -128,6 +132,9 @@ module _ {n : PlanNumbers} {ks : List ℕ} (h : Matched n ks) where
         let both = kinds-sum-to ks i (λ j k. h .kinded .each j (omega arith)) in
         let threes : i - q ≡ kindsTo ks 3 i = omega (arith, both, e) in
         rw (threes, e) (sym (before-kinds ks (cellDim es) i (λ j k. h .kinded .each j (omega arith))))
+
+    pub quads-few : {q : ℕ} → q ≡ kindsTo ks 4 i → (q ≤ i) × (i ≤ mostCells)
+    quads-few e = (omega (arith, e, kinds-few ks 4 i), omega (arith, h .cells))
 
     -- so a cell is as the code has it
     pub cell-is : (es : Elements) {k q : ℕ} → k ≡ getD ks i 0 → q ≡ kindsTo ks 4 i → cellBehind es k i q ≡ cellAt ks es i
@@ -187,8 +194,9 @@ record-right r l = go (recordKnown r (recordOf r l)) _ _
     go false b c = refl
 
 -- record p and its cells, as the code has them
-pub pair-is : (r : Run) (l : Plan) {e : WorkRecord} {x : Pair} → e ≡ recordOf r l → x ≡ pairOf (l .kinds) r e → x ≡ pairAt r l
-pair-is r l q h = h ∙ ap (λ (e : WorkRecord). pairOf (l .kinds) r e) q
+pub pair-is : (r : Run) (l : Plan) {e : WorkRecord} {t u : Cell} → e ≡ recordOf r l → t ≡ cellAt (l .kinds) (r .numbers .test) (e .test) → u ≡ cellAt (l .kinds) (r .numbers .trial) (e .trial)
+    → _≡_ {A = Pair} (record { item = e; test = t; trial = u }) (pairAt r l)
+pair-is r l q x y = rw (x, y, q) refl
 
 -- ---- 21, 20, 22 in order
 

@@ -29,8 +29,8 @@ ghost use Rattle.grid.specs.Mesh.{mostCells};
 ghost use Rattle.grid.specs.KindsFacts.{kindsTo};
 ghost use Rattle.function.specs.Elements.{cellDim};
 ghost use Rattle.runs.specs.Runs.{begin, beginEntries, rangesRight, countsRight, kindsFit, planRight, recordKnown, look, planOf};
-ghost use Rattle.boundary_assemblers.specs.Forms.{runOf, lookedOf, stateChecked, cellBehind, dofsAt, pairOf};
-ghost use Rattle.boundary_assemblers.specs.RunFacts.{Matched, Known, Inside, dofsBelow};
+ghost use Rattle.boundary_assemblers.specs.Forms.{runOf, lookedOf, stateChecked, cellBehind, dofsAt};
+ghost use Rattle.boundary_assemblers.specs.RunFacts.{Matched, Inside, dofsBelow};
 
 // How many local DOFs so many triangles and quads have together. Of elements that hold any u32 the sum fits.
 fn dofs_on(triangles: u32, quads: u32, elements: Elements) -> usize
@@ -156,23 +156,6 @@ impl Run {
         count_kind(&kinds[..wide(cell)], 4)
     }
 
-    // A record with its two cells.
-    fn pair_at(self, kinds: &[u8], e: WorkRecord) -> Pair
-        requires { ⌜ Matched (self .numbers) (now kinds) × Known (runOf self) e ⌝ }
-        ensures { λ r. ⌜ r ≡ pairOf (now (kinds .entry)) (runOf self) e ⌝ }
-    {
-        let n = self.numbers;
-        let i = e.test;
-        let j = e.trial;
-        let test_quads = self.quads_before(kinds, i);
-        let trial_quads = self.quads_before(kinds, j);
-        Pair {
-            item: e,
-            test: cell_at(n.test, kinds[wide(i)], i, test_quads),
-            trial: cell_at(n.trial, kinds[wide(j)], j, trial_quads),
-        }
-    }
-
     // 22: a record has a pattern of the list, and cells below C.
     fn record_known(self, e: WorkRecord) -> bool
         ensures { λ r. ⌜ r ≡ recordKnown (runOf self) e ⌝ }
@@ -227,7 +210,15 @@ impl Run {
         if !self.record_known(record) {
             return Checked::Refused(22);
         }
-        let e = self.pair_at(kinds, record);
+        let i = record.test;
+        let j = record.trial;
+        let test_quads = self.quads_before(kinds, i);
+        let trial_quads = self.quads_before(kinds, j);
+        let e = Pair {
+            item: record,
+            test: cell_at(n.test, kinds[wide(i)], i, test_quads),
+            trial: cell_at(n.trial, kinds[wide(j)], j, trial_quads),
+        };
         if !self.dofs_right(test_dofs, trial_dofs, e) {
             return Checked::Refused(22);
         }

@@ -5,8 +5,9 @@ use Prim.Native.Nat.{ℕ, _*_}
 use borrow.Author.Tests.{not-true, not-false}
 use Rattle.lists.specs.Bool.{_also_, end, and-left, and-right, turned, passed}
 use Rattle.cell_pairs.specs.Records.{recordAt}
-use Rattle.runs.specs.Runs.{kindsFit, planOf}
-use Rattle.boundary_assemblers.specs.RunFacts.{ranges, matched, known, both-inside, record-fits, pair-is, run-fails, plan-fails, none-left, record-unknown, dofs-fail, all-pass}
+use lib.ListN.{getD}
+use Rattle.runs.specs.Runs.{planOf}
+use Rattle.boundary_assemblers.specs.RunFacts.{ranges, kinds-matched, known, quads-few, cell-is, both-inside, record-fits, pair-is, run-fails, plan-fails, none-left, record-unknown, dofs-fail, all-pass}
 use Rattle.boundary_assemblers.specs.Forms.{runOf}
 use borrow.Author.Needs.{needs}
 use Rattle.boundary_assemblers.proofs.Run.state_checked.Statement.{statement}
@@ -64,30 +65,76 @@ returns-6 c =
     (λ e. c .before .before .before .if5 .left (c .before .before .before .before .wide2 .ensures ∙ e ∙ sym (ap (λ (n : ℕ). n * n) (c .before .before .before .before .before .wide .ensures))))
     _ (c .before .before .record-at .ensures ∙ ap (recordAt _) (c .before .before .before .before .wide2 .ensures)) (turned (c .before .record-known .ensures) (c .if6 .taken))
 
-pair-at-requires : tie.Need-pair-at-requires
-unfolding kindsFit
-pair-at-requires c κs =
+quads-before-requires : tie.Need-quads-before-requires
+quads-before-requires c κs =
     let start = c .before .before .before .before .before .before .before .before .before .before .before .before .before .before .before .before .before .before in
-    (matched (start .args .self .numbers) _ (ranges (runOf (start .args .self)) (passed (c .before .before .before .before .before .before .before .before .before .before .before .before .before .ranges-right .ensures) (c .before .before .before .before .before .before .before .before .before .before .before .before .if1 .left)) .cells) (and-left _ _ (passed (c .before .before .before .before .before .before .before .before .before .plan-right .ensures) (c .before .before .before .before .before .before .before .before .if3 .left))), known (runOf (start .args .self)) _ (passed (c .before .record-known .ensures) (c .if6 .left)))
+    (kinds-matched (runOf (start .args .self)) (planOf (start .args .kinds .now) (start .args .test-dofs .now) (start .args .trial-dofs .now) (start .args .work .now)) (passed (c .before .before .before .before .before .before .before .before .before .before .before .before .before .ranges-right .ensures) (c .before .before .before .before .before .before .before .before .before .before .before .before .if1 .left)) (passed (c .before .before .before .before .before .before .before .before .before .plan-right .ensures) (c .before .before .before .before .before .before .before .before .if3 .left)), known (runOf (start .args .self)) _ (passed (c .before .record-known .ensures) (c .if6 .left)) .test)
+
+quads-before-requires-2 : tie.Need-quads-before-requires-2
+quads-before-requires-2 c κs =
+    let start = c .before .before .before .before .before .before .before .before .before .before .before .before .before .before .before .before .before .before .before in
+    (kinds-matched (runOf (start .args .self)) (planOf (start .args .kinds .now) (start .args .test-dofs .now) (start .args .trial-dofs .now) (start .args .work .now)) (passed (c .before .before .before .before .before .before .before .before .before .before .before .before .before .before .ranges-right .ensures) (c .before .before .before .before .before .before .before .before .before .before .before .before .before .if1 .left)) (passed (c .before .before .before .before .before .before .before .before .before .before .plan-right .ensures) (c .before .before .before .before .before .before .before .before .before .if3 .left)), known (runOf (start .args .self)) _ (passed (c .before .before .record-known .ensures) (c .before .if6 .left)) .trial)
+
+wide-requires-3 : tie.Need-wide-requires-3
+wide-requires-3 c κs = search needs
+
+shared-slice-read-cell-at : tie.Need-shared-slice-read-cell-at
+shared-slice-read-cell-at c =
+    let start = c .before .before .before .before .before .before .before .before .before .before .before .before .before .before .before .before .before .before .before .before .before .before in
+    let m = kinds-matched (runOf (start .args .self)) (planOf (start .args .kinds .now) (start .args .test-dofs .now) (start .args .trial-dofs .now) (start .args .work .now)) (passed (c .before .before .before .before .before .before .before .before .before .before .before .before .before .before .before .before .before .ranges-right .ensures) (c .before .before .before .before .before .before .before .before .before .before .before .before .before .before .before .before .if1 .left)) (passed (c .before .before .before .before .before .before .before .before .before .before .before .before .before .plan-right .ensures) (c .before .before .before .before .before .before .before .before .before .before .before .before .if3 .left)) in
+    let k = known (runOf (start .args .self)) _ (passed (c .before .before .before .before .before .record-known .ensures) (c .before .before .before .before .if6 .left)) in
+    omega (arith, c .before .wide3 .ensures, m .kinded .long, k .test)
+
+cell-at-requires : tie.Need-cell-at-requires
+cell-at-requires c κs =
+    let start = c .before .before .before .before .before .before .before .before .before .before .before .before .before .before .before .before .before .before .before .before .before .before in
+    let m = kinds-matched (runOf (start .args .self)) (planOf (start .args .kinds .now) (start .args .test-dofs .now) (start .args .trial-dofs .now) (start .args .work .now)) (passed (c .before .before .before .before .before .before .before .before .before .before .before .before .before .before .before .before .before .ranges-right .ensures) (c .before .before .before .before .before .before .before .before .before .before .before .before .before .before .before .before .if1 .left)) (passed (c .before .before .before .before .before .before .before .before .before .before .before .before .before .plan-right .ensures) (c .before .before .before .before .before .before .before .before .before .before .before .before .if3 .left)) in
+    let k = known (runOf (start .args .self)) _ (passed (c .before .before .before .before .before .record-known .ensures) (c .before .before .before .before .if6 .left)) in
+    quads-few m _ (k .test) (c .before .before .before .quads-before .ensures)
+
+wide-requires-4 : tie.Need-wide-requires-4
+wide-requires-4 c κs = search needs
+
+shared-slice-read-cell-at-2 : tie.Need-shared-slice-read-cell-at-2
+shared-slice-read-cell-at-2 c =
+    let start = c .before .before .before .before .before .before .before .before .before .before .before .before .before .before .before .before .before .before .before .before .before .before .before .before .before in
+    let m = kinds-matched (runOf (start .args .self)) (planOf (start .args .kinds .now) (start .args .test-dofs .now) (start .args .trial-dofs .now) (start .args .work .now)) (passed (c .before .before .before .before .before .before .before .before .before .before .before .before .before .before .before .before .before .before .before .before .ranges-right .ensures) (c .before .before .before .before .before .before .before .before .before .before .before .before .before .before .before .before .before .before .before .if1 .left)) (passed (c .before .before .before .before .before .before .before .before .before .before .before .before .before .before .before .before .plan-right .ensures) (c .before .before .before .before .before .before .before .before .before .before .before .before .before .before .before .if3 .left)) in
+    let k = known (runOf (start .args .self)) _ (passed (c .before .before .before .before .before .before .before .before .record-known .ensures) (c .before .before .before .before .before .before .before .if6 .left)) in
+    omega (arith, c .before .wide4 .ensures, m .kinded .long, k .trial)
+
+cell-at-requires-2 : tie.Need-cell-at-requires-2
+cell-at-requires-2 c κs =
+    let start = c .before .before .before .before .before .before .before .before .before .before .before .before .before .before .before .before .before .before .before .before .before .before .before .before .before in
+    let m = kinds-matched (runOf (start .args .self)) (planOf (start .args .kinds .now) (start .args .test-dofs .now) (start .args .trial-dofs .now) (start .args .work .now)) (passed (c .before .before .before .before .before .before .before .before .before .before .before .before .before .before .before .before .before .before .before .before .ranges-right .ensures) (c .before .before .before .before .before .before .before .before .before .before .before .before .before .before .before .before .before .before .before .if1 .left)) (passed (c .before .before .before .before .before .before .before .before .before .before .before .before .before .before .before .before .plan-right .ensures) (c .before .before .before .before .before .before .before .before .before .before .before .before .before .before .before .if3 .left)) in
+    let k = known (runOf (start .args .self)) _ (passed (c .before .before .before .before .before .before .before .before .record-known .ensures) (c .before .before .before .before .before .before .before .if6 .left)) in
+    quads-few m _ (k .trial) (c .before .before .before .before .before .quads-before2 .ensures)
 
 dofs-right-requires : tie.Need-dofs-right-requires
-dofs-right-requires c κs = rw (c .pair-at .ensures) (both-inside (runOf (c .before .before .before .before .before .before .before .before .before .before .before .before .before .before .before .before .before .before .before .args .self)) _ (and-right _ _ (passed (c .before .before .before .before .before .before .before .before .before .before .plan-right .ensures) (c .before .before .before .before .before .before .before .before .before .if3 .left))) _ (passed (c .before .before .record-known .ensures) (c .before .if6 .left)))
+dofs-right-requires c κs =
+    let start = c .before .before .before .before .before .before .before .before .before .before .before .before .before .before .before .before .before .before .before .before .before .before .before .before .before .before in
+    let m = kinds-matched (runOf (start .args .self)) (planOf (start .args .kinds .now) (start .args .test-dofs .now) (start .args .trial-dofs .now) (start .args .work .now)) (passed (c .before .before .before .before .before .before .before .before .before .before .before .before .before .before .before .before .before .before .before .before .before .ranges-right .ensures) (c .before .before .before .before .before .before .before .before .before .before .before .before .before .before .before .before .before .before .before .before .if1 .left)) (passed (c .before .before .before .before .before .before .before .before .before .before .before .before .before .before .before .before .before .plan-right .ensures) (c .before .before .before .before .before .before .before .before .before .before .before .before .before .before .before .before .if3 .left)) in
+    let k = known (runOf (start .args .self)) _ (passed (c .before .before .before .before .before .before .before .before .before .record-known .ensures) (c .before .before .before .before .before .before .before .before .if6 .left)) in
+    rw (c .cell-at2 .ensures ∙ cell-is m _ (k .trial) (start .args .self .numbers .trial) (ap (λ (i : ℕ). getD (start .args .kinds .now) i 0) (c .before .before .wide4 .ensures)) (c .before .before .before .before .before .before .quads-before2 .ensures), c .before .before .before .cell-at .ensures ∙ cell-is m _ (k .test) (start .args .self .numbers .test) (ap (λ (i : ℕ). getD (start .args .kinds .now) i 0) (c .before .before .before .before .before .wide3 .ensures)) (c .before .before .before .before .before .before .before .quads-before .ensures)) (both-inside (runOf (start .args .self)) _ (and-right _ _ (passed (c .before .before .before .before .before .before .before .before .before .before .before .before .before .before .before .before .before .plan-right .ensures) (c .before .before .before .before .before .before .before .before .before .before .before .before .before .before .before .before .if3 .left))) _ (passed (c .before .before .before .before .before .before .before .before .before .record-known .ensures) (c .before .before .before .before .before .before .before .before .if6 .left)))
 
 returns-7 : tie.Need-returns-7
 returns-7 c =
-    let start = c .before .before .before .before .before .before .before .before .before .before .before .before .before .before .before .before .before .before .before .before .before in
+    let start = c .before .before .before .before .before .before .before .before .before .before .before .before .before .before .before .before .before .before .before .before .before .before .before .before .before .before .before .before in
+    let m = kinds-matched (runOf (start .args .self)) (planOf (start .args .kinds .now) (start .args .test-dofs .now) (start .args .trial-dofs .now) (start .args .work .now)) (passed (c .before .before .before .before .before .before .before .before .before .before .before .before .before .before .before .before .before .before .before .before .before .before .before .ranges-right .ensures) (c .before .before .before .before .before .before .before .before .before .before .before .before .before .before .before .before .before .before .before .before .before .before .if1 .left)) (passed (c .before .before .before .before .before .before .before .before .before .before .before .before .before .before .before .before .before .before .before .plan-right .ensures) (c .before .before .before .before .before .before .before .before .before .before .before .before .before .before .before .before .before .before .if3 .left)) in
+    let k = known (runOf (start .args .self)) _ (passed (c .before .before .before .before .before .before .before .before .before .before .before .record-known .ensures) (c .before .before .before .before .before .before .before .before .before .before .if6 .left)) in
     dofs-fail _ _ _
-    (passed (c .before .before .before .before .before .before .before .before .before .before .before .before .before .before .before .before .ranges-right .ensures) (c .before .before .before .before .before .before .before .before .before .before .before .before .before .before .before .if1 .left) also passed (c .before .before .before .before .before .before .before .before .before .before .before .before .before .before .counts-right .ensures) (c .before .before .before .before .before .before .before .before .before .before .before .before .before .if2 .left) also and-left _ _ (passed (c .before .before .before .before .before .before .before .before .before .before .before .before .plan-right .ensures) (c .before .before .before .before .before .before .before .before .before .before .before .if3 .left)) also and-right _ _ (passed (c .before .before .before .before .before .before .before .before .before .before .before .before .plan-right .ensures) (c .before .before .before .before .before .before .before .before .before .before .before .if3 .left)) also not-false _ (c .before .before .before .before .before .before .before .before .before .before .if4 .left) also end)
-    (λ e. c .before .before .before .before .before .before .if5 .left (c .before .before .before .before .before .before .before .wide2 .ensures ∙ e ∙ sym (ap (λ (n : ℕ). n * n) (c .before .before .before .before .before .before .before .before .wide .ensures))))
-    _ (pair-is (runOf (start .args .self)) (planOf (start .args .kinds .now) (start .args .test-dofs .now) (start .args .trial-dofs .now) (start .args .work .now)) (c .before .before .before .before .before .record-at .ensures ∙ ap (recordAt _) (c .before .before .before .before .before .before .before .wide2 .ensures)) (c .before .before .pair-at .ensures)) (turned (c .before .dofs-right .ensures) (c .if7 .taken))
+    (passed (c .before .before .before .before .before .before .before .before .before .before .before .before .before .before .before .before .before .before .before .before .before .before .before .ranges-right .ensures) (c .before .before .before .before .before .before .before .before .before .before .before .before .before .before .before .before .before .before .before .before .before .before .if1 .left) also passed (c .before .before .before .before .before .before .before .before .before .before .before .before .before .before .before .before .before .before .before .before .before .counts-right .ensures) (c .before .before .before .before .before .before .before .before .before .before .before .before .before .before .before .before .before .before .before .before .if2 .left) also and-left _ _ (passed (c .before .before .before .before .before .before .before .before .before .before .before .before .before .before .before .before .before .before .before .plan-right .ensures) (c .before .before .before .before .before .before .before .before .before .before .before .before .before .before .before .before .before .before .if3 .left)) also and-right _ _ (passed (c .before .before .before .before .before .before .before .before .before .before .before .before .before .before .before .before .before .before .before .plan-right .ensures) (c .before .before .before .before .before .before .before .before .before .before .before .before .before .before .before .before .before .before .if3 .left)) also not-false _ (c .before .before .before .before .before .before .before .before .before .before .before .before .before .before .before .before .before .if4 .left) also end)
+    (λ e. c .before .before .before .before .before .before .before .before .before .before .before .before .before .if5 .left (c .before .before .before .before .before .before .before .before .before .before .before .before .before .before .wide2 .ensures ∙ e ∙ sym (ap (λ (n : ℕ). n * n) (c .before .before .before .before .before .before .before .before .before .before .before .before .before .before .before .wide .ensures))))
+    _ (pair-is (runOf (start .args .self)) (planOf (start .args .kinds .now) (start .args .test-dofs .now) (start .args .trial-dofs .now) (start .args .work .now)) (c .before .before .before .before .before .before .before .before .before .before .before .before .record-at .ensures ∙ ap (recordAt _) (c .before .before .before .before .before .before .before .before .before .before .before .before .before .before .wide2 .ensures)) (c .before .before .before .before .before .cell-at .ensures ∙ cell-is m _ (k .test) (start .args .self .numbers .test) (ap (λ (i : ℕ). getD (start .args .kinds .now) i 0) (c .before .before .before .before .before .before .before .wide3 .ensures)) (c .before .before .before .before .before .before .before .before .before .quads-before .ensures)) (c .before .before .cell-at2 .ensures ∙ cell-is m _ (k .trial) (start .args .self .numbers .trial) (ap (λ (i : ℕ). getD (start .args .kinds .now) i 0) (c .before .before .before .before .wide4 .ensures)) (c .before .before .before .before .before .before .before .before .quads-before2 .ensures))) (turned (c .before .dofs-right .ensures) (c .if7 .taken))
 
 returns-8 : tie.Need-returns-8
 returns-8 c =
-    let start = c .before .before .before .before .before .before .before .before .before .before .before .before .before .before .before .before .before .before .before .before .before in
+    let start = c .before .before .before .before .before .before .before .before .before .before .before .before .before .before .before .before .before .before .before .before .before .before .before .before .before .before .before .before in
+    let m = kinds-matched (runOf (start .args .self)) (planOf (start .args .kinds .now) (start .args .test-dofs .now) (start .args .trial-dofs .now) (start .args .work .now)) (passed (c .before .before .before .before .before .before .before .before .before .before .before .before .before .before .before .before .before .before .before .before .before .before .before .ranges-right .ensures) (c .before .before .before .before .before .before .before .before .before .before .before .before .before .before .before .before .before .before .before .before .before .before .if1 .left)) (passed (c .before .before .before .before .before .before .before .before .before .before .before .before .before .before .before .before .before .before .before .plan-right .ensures) (c .before .before .before .before .before .before .before .before .before .before .before .before .before .before .before .before .before .before .if3 .left)) in
+    let k = known (runOf (start .args .self)) _ (passed (c .before .before .before .before .before .before .before .before .before .before .before .record-known .ensures) (c .before .before .before .before .before .before .before .before .before .before .if6 .left)) in
     all-pass _ _ _
-    (passed (c .before .before .before .before .before .before .before .before .before .before .before .before .before .before .before .before .ranges-right .ensures) (c .before .before .before .before .before .before .before .before .before .before .before .before .before .before .before .if1 .left) also passed (c .before .before .before .before .before .before .before .before .before .before .before .before .before .before .counts-right .ensures) (c .before .before .before .before .before .before .before .before .before .before .before .before .before .if2 .left) also and-left _ _ (passed (c .before .before .before .before .before .before .before .before .before .before .before .before .plan-right .ensures) (c .before .before .before .before .before .before .before .before .before .before .before .if3 .left)) also and-right _ _ (passed (c .before .before .before .before .before .before .before .before .before .before .before .before .plan-right .ensures) (c .before .before .before .before .before .before .before .before .before .before .before .if3 .left)) also not-false _ (c .before .before .before .before .before .before .before .before .before .before .if4 .left) also end)
-    (λ e. c .before .before .before .before .before .before .if5 .left (c .before .before .before .before .before .before .before .wide2 .ensures ∙ e ∙ sym (ap (λ (n : ℕ). n * n) (c .before .before .before .before .before .before .before .before .wide .ensures))))
-    _ (pair-is (runOf (start .args .self)) (planOf (start .args .kinds .now) (start .args .test-dofs .now) (start .args .trial-dofs .now) (start .args .work .now)) (c .before .before .before .before .before .record-at .ensures ∙ ap (recordAt _) (c .before .before .before .before .before .before .before .wide2 .ensures)) (c .before .before .pair-at .ensures)) (rw (c .before .before .pair-at .ensures) (passed (c .before .before .before .before .record-known .ensures) (c .before .before .before .if6 .left))) (passed (c .before .dofs-right .ensures) (c .if7 .left))
+    (passed (c .before .before .before .before .before .before .before .before .before .before .before .before .before .before .before .before .before .before .before .before .before .before .before .ranges-right .ensures) (c .before .before .before .before .before .before .before .before .before .before .before .before .before .before .before .before .before .before .before .before .before .before .if1 .left) also passed (c .before .before .before .before .before .before .before .before .before .before .before .before .before .before .before .before .before .before .before .before .before .counts-right .ensures) (c .before .before .before .before .before .before .before .before .before .before .before .before .before .before .before .before .before .before .before .before .if2 .left) also and-left _ _ (passed (c .before .before .before .before .before .before .before .before .before .before .before .before .before .before .before .before .before .before .before .plan-right .ensures) (c .before .before .before .before .before .before .before .before .before .before .before .before .before .before .before .before .before .before .if3 .left)) also and-right _ _ (passed (c .before .before .before .before .before .before .before .before .before .before .before .before .before .before .before .before .before .before .before .plan-right .ensures) (c .before .before .before .before .before .before .before .before .before .before .before .before .before .before .before .before .before .before .if3 .left)) also not-false _ (c .before .before .before .before .before .before .before .before .before .before .before .before .before .before .before .before .before .if4 .left) also end)
+    (λ e. c .before .before .before .before .before .before .before .before .before .before .before .before .before .if5 .left (c .before .before .before .before .before .before .before .before .before .before .before .before .before .before .wide2 .ensures ∙ e ∙ sym (ap (λ (n : ℕ). n * n) (c .before .before .before .before .before .before .before .before .before .before .before .before .before .before .before .wide .ensures))))
+    _ (pair-is (runOf (start .args .self)) (planOf (start .args .kinds .now) (start .args .test-dofs .now) (start .args .trial-dofs .now) (start .args .work .now)) (c .before .before .before .before .before .before .before .before .before .before .before .before .record-at .ensures ∙ ap (recordAt _) (c .before .before .before .before .before .before .before .before .before .before .before .before .before .before .wide2 .ensures)) (c .before .before .before .before .before .cell-at .ensures ∙ cell-is m _ (k .test) (start .args .self .numbers .test) (ap (λ (i : ℕ). getD (start .args .kinds .now) i 0) (c .before .before .before .before .before .before .before .wide3 .ensures)) (c .before .before .before .before .before .before .before .before .before .quads-before .ensures)) (c .before .before .cell-at2 .ensures ∙ cell-is m _ (k .trial) (start .args .self .numbers .trial) (ap (λ (i : ℕ). getD (start .args .kinds .now) i 0) (c .before .before .before .before .wide4 .ensures)) (c .before .before .before .before .before .before .before .before .quads-before2 .ensures))) (passed (c .before .before .before .before .before .before .before .before .before .before .before .record-known .ensures) (c .before .before .before .before .before .before .before .before .before .before .if6 .left)) (passed (c .before .dofs-right .ensures) (c .if7 .left))
 
 pub state-checked-spec : {M : Type 1} → statement M
 state-checked-spec =
@@ -107,7 +154,14 @@ state-checked-spec =
     record-at-requires
     record-known-requires
     returns-6
-    pair-at-requires
+    quads-before-requires
+    quads-before-requires-2
+    wide-requires-3
+    shared-slice-read-cell-at
+    cell-at-requires
+    wide-requires-4
+    shared-slice-read-cell-at-2
+    cell-at-requires-2
     dofs-right-requires
     returns-7
     returns-8)

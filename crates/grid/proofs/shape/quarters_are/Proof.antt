@@ -9,8 +9,6 @@ use Rattle.grid.specs.KindsFacts.{quarters, quarters-more, quarters-all}
 use borrow.Author.Needs.{needs}
 use Rattle.grid.proofs.shape.quarters_are.Statement.{statement}
 use Rattle.grid.proofs.shape.quarters_are.Tie as tie
-use Rattle.grid.proofs.shape.quarters_are.Reads as reads
-use Rattle.grid.proofs.shape.quarters_are.Lts as lts
 
 abbrev Inv-loop : tie.InvT-loop
 Inv-loop kinds n kind same₀ i₀ same i = (i ≤ n) × (same ≡ all i (quarters (λ k. eqb (getD kinds k 0) kind) n))
