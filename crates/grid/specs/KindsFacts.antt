@@ -7,10 +7,10 @@ use mathlib.Core.Path.{_≡_, refl, sym, ap, ap₂, subst, _∙_}
 use mathlib.Core.Logic.{_⊎_, inl, inr, ⊎-elim}
 use mathlib.Core.List.{List, [], _∷_}
 use lib.ListN.{length, getD, take, drop, length-drop}
-use lib.Seq.{getD-drop, take-all}
+use lib.Seq.{getD-take, getD-drop, take-all, length-take-le}
 use lib.Dec.{eqb, ltb}
 use borrow.Author.Tests.{lt-ltb, eq-eqb, ne-eqb, eqb-true}
-use Rattle.lists.specs.Bool.{_and_, _or_, every, every-at, every-fails, every-of, _also_, end, and-left, and-right, and-both, and-no-left, or-left, or-right, same-test}
+use Rattle.lists.specs.Bool.{_and_, _or_, every, every-at, every-fails, every-of, _also_, end, and-left, and-right, and-both, and-no-left, or-left, or-right, same-test, cases}
 use Rattle.lists.specs.Bounded.{all, all-at, all-of, all-next, all-ext, all-sum, lt-or-le}
 use Rattle.lists.specs.Total.{total, gate, total-filter}
 use Rattle.grid.specs.Cells.{before}
@@ -58,6 +58,32 @@ kinds-few ks n i = omega (arith, before-most (λ k. gate (eqb k n) 1) ks 1 i (λ
     most : (b : Bool) → gate b 1 ≤ 1
     most true = omega arith
     most false = omega arith
+
+pub cells-few : (ks : List ℕ) (n : ℕ) → cellsOf ks n ≤ length ks
+cells-few ks n = omega (arith, kinds-all ks n, kinds-few ks n (length ks))
+
+-- those of the first a cells, and of b cells behind them
+before-cut : (w : ℕ → ℕ) (ks : List ℕ) (a b j : ℕ) → j ≤ b → before w ks (a + j) ≡ before w ks a + before w (take b (drop a ks)) j
+unfolding before
+before-cut w ks a b zero h = let none : a + 0 ≡ a = omega arith in omega (arith, ap (before w ks) none)
+before-cut w ks a b (suc j) h =
+    let same : getD (take b (drop a ks)) j 0 ≡ getD ks (a + j) 0 = getD-take b (drop a ks) j 0 (omega arith) ∙ getD-drop a ks j 0 in
+    let next : a + suc j ≡ a + j + 1 = omega arith in
+    ap (before w ks) next ∙ before-more w ks (a + j) ∙ omega (arith, before-cut w ks a b j (omega arith), ap w same)
+
+pub kinds-cut : (ks : List ℕ) (n a b : ℕ) → a + b ≤ length ks → kindsTo ks n (a + b) ≡ kindsTo ks n a + cellsOf (take b (drop a ks)) n
+kinds-cut ks n a b h =
+    let long : length (take b (drop a ks)) ≡ b = length-take-le b (drop a ks) (omega (arith, length-drop a ks)) in
+    before-cut (λ k. gate (eqb k n) 1) ks a b b (omega arith) ∙ ap (λ (m : ℕ). kindsTo ks n a + m) (ap (kindsTo (take b (drop a ks)) n) (sym long) ∙ kinds-all (take b (drop a ks)) n)
+
+-- the code counts so few at a time
+abbrev pub few : ℕ
+few = 128
+
+pub kinds-rest : (ks : List ℕ) (n a : ℕ) → a ≤ length ks → kindsTo ks n a + cellsOf (take (length ks - a) (drop a ks)) n ≡ cellsOf ks n
+kinds-rest ks n a h =
+    let all : a + (length ks - a) ≡ length ks = omega arith in
+    sym (kinds-cut ks n a (length ks - a) (omega arith)) ∙ ap (kindsTo ks n) all ∙ kinds-all ks n
 
 -- all cells are of one kind: so many are of it, and none of another
 alone : (n : ℕ) (ks : List ℕ) → ((i : ℕ) → i < length ks → getD ks i 0 ≡ n) → (k : ℕ) → cellsOf ks k ≡ gate (eqb n k) (length ks)
@@ -155,10 +181,15 @@ module _ (C : ℕ) (ks : List ℕ) where
     abbrev known : Bool
     known = all (length ks) (λ i. eqb (getD ks i 0) 3 or eqb (getD ks i 0) 4)
 
-    -- the two counts
-    pub match-both : (t q : ℕ) → kindsMatch C t q ks ≡ (known and eqb t (cellsOf ks 3) and eqb q (cellsOf ks 4))
+    -- the two counts: the quads, and what is left
+    pub match-both : (t q : ℕ) → kindsMatch C t q ks ≡ (known and eqb t (C - cellsOf ks 4) and eqb q (cellsOf ks 4))
     unfolding kindsMatch kindsRight every _and_
-    match-both t q = rw (eq-eqb (length ks) C long)
+    match-both t q =
+        rw (eq-eqb (length ks) C long)
+        (⊎-elim (λ (e : known ≡ true). ap (λ (x : ℕ). known and eqb t x and eqb q (cellsOf ks 4)) (left e)) (λ (e : known ≡ false). rw e refl) (cases known))
+      where
+        left : known ≡ true → cellsOf ks 3 ≡ C - cellsOf ks 4
+        left e = omega (arith, kinds-sum C ks (kinded C ks (and-both _ _ (eq-eqb (length ks) C long) e)))
 
     -- one kind alone
     only : (n o : ℕ) → ((i : ℕ) → i < C → (getD ks i 0 ≡ n) ⊎ (getD ks i 0 ≡ o)) → 0 ≡ cellsOf ks o → (i : ℕ) → i < length ks → getD ks i 0 ≡ n

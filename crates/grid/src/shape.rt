@@ -16,6 +16,7 @@ ghost use Rattle.grid.specs.CellsFacts.{Shaped};
 ghost use Rattle.grid.specs.Rows.{row, rowsOf};
 ghost use Rattle.grid.specs.RowsFacts.{filled};
 ghost use Rattle.grid.specs.Mesh.{mostCells, mostVertices, cellsOf, kindsMatch};
+ghost use Rattle.grid.specs.KindsFacts.{few};
 ghost use Rattle.grid.specs.EdgeRule.{pairKey, cellKeys};
 
 // The most vertices of a cell, and the most edges.
@@ -42,18 +43,36 @@ pub(crate) fn kinds_known(kinds: &[u8]) -> bool
     known
 }
 
+// How many of few cells are of a kind. Eight bits do, so that it is compiled to sixteen cells at a time.
+fn count_few(kinds: &[u8], kind: u8) -> u8
+    requires { ⌜ length (now kinds) ≤ few ⌝ }
+    ensures { λ r. ⌜ r ≡ cellsOf (now (kinds .entry)) kind ⌝ }
+{
+    let mut count = 0u8;
+    let mut i = 0;
+    while i < kinds.len() {
+        count += (kinds[i] == kind) as u8;
+        i += 1;
+    }
+    count
+}
+
+// So few.
+const FEW: usize = 128;
+
 // How many cells are of a kind.
 pub fn count_kind(kinds: &[u8], kind: u8) -> u32
     requires { ⌜ length (now kinds) ≤ mostCells ⌝ }
     ensures { λ r. ⌜ r ≡ cellsOf (now (kinds .entry)) kind ⌝ }
 {
-    let mut count = 0;
-    let mut i = 0;
-    while i < kinds.len() {
-        count += (kinds[i] == kind) as u32;
-        i += 1;
+    let mut count = 0u32;
+    let mut at = 0;
+    while at + FEW <= kinds.len() {
+        let end = at + FEW;
+        count += count_few(&kinds[at..end], kind) as u32;
+        at = end;
     }
-    count
+    count + count_few(&kinds[at..], kind) as u32
 }
 
 // Whether the first 4n cells are of a kind. With no way out before the end, as above, and a cell of each quarter at a time, so that there are fewer turns.
@@ -110,7 +129,8 @@ pub fn kinds_match(cells: u32, triangles: u32, quads: u32, kinds: &[u8]) -> bool
     if triangles == 0 {
         return (quads == cells) & all_are(kinds, 4);
     }
-    kinds_known(kinds) & (triangles == count_kind(kinds, 3)) & (quads == count_kind(kinds, 4))
+    let fours = count_kind(kinds, 4);
+    kinds_known(kinds) & (triangles == cells - fours) & (quads == fours)
 }
 
 // How many vertices the cells have together, and edges.

@@ -1,56 +1,75 @@
 -- `grid::shape::count_kind` meets its contract. The invariant: how many of the cells passed are of the kind. Assumes nothing.
 use Prim.Native.Nat.{_-_, _≤_}
+use native.Mathlib.Nat.{add-sub-cancel-left}
 use native.Mathlib.Omega.{arith}
-use mathlib.Core.Bool.{Bool, true, false}
-use mathlib.Core.Path.{_≡_, refl, sym, _∙_}
-use lib.ListN.{length, getD}
-use lib.Dec.{eqb}
+use mathlib.Core.Path.{_≡_, refl, sym}
+use lib.ListN.{length, drop, length-take, length-drop}
 use Rattle.grid.specs.Cells.{before}
-use mir.Val.{boolByte}
-use Rattle.lists.specs.Total.{gate}
-use Rattle.grid.specs.KindsFacts.{kindsTo, kinds-all, kinds-next, kinds-few}
+use Rattle.grid.specs.KindsFacts.{kindsTo, few, kinds-few, kinds-cut, kinds-rest}
 use borrow.Author.Needs.{needs}
 use Rattle.grid.proofs.shape.count_kind.Statement.{statement}
 use Rattle.grid.proofs.shape.count_kind.Tie as tie
 
-as-number : (b : Bool) → boolByte b ≡ gate b 1
-as-number true = refl
-as-number false = refl
-
-at-most : (b : Bool) → boolByte b ≤ 1
-at-most true = omega arith
-at-most false = omega arith
-
 abbrev Inv-loop : tie.InvT-loop
-Inv-loop kinds kind count₀ i₀ count i = (i ≤ length kinds) × (count ≡ kindsTo kinds kind i)
+Inv-loop kinds kind count₀ at₀ count at = (at ≤ length kinds) × (count ≡ kindsTo kinds kind at)
 
 abbrev μ-loop : tie.MeasureT-loop
-μ-loop kinds kind count₀ i₀ count i = length kinds - i
+μ-loop kinds kind count₀ at₀ count at = length kinds - at
 
 loop-holds : tie.Need-loop-holds Inv-loop μ-loop
 unfolding before
 loop-holds c = (search needs, refl)
 
-shared-slice-read-count : tie.Need-shared-slice-read-count Inv-loop μ-loop
-shared-slice-read-count c = search needs
+add-loop : tie.Need-add-loop Inv-loop μ-loop
+add-loop c = search needs
+
+add-end : tie.Need-add-end Inv-loop μ-loop
+add-end c = search needs
+
+sub-count-few : tie.Need-sub-count-few Inv-loop μ-loop
+sub-count-few c = search needs
+
+part-count-few-start : tie.Need-part-count-few-start Inv-loop μ-loop
+part-count-few-start c = search needs
+
+part-count-few-end : tie.Need-part-count-few-end Inv-loop μ-loop
+part-count-few-end c = search needs
+
+count-few-requires : tie.Need-count-few-requires Inv-loop μ-loop
+count-few-requires c κs = let at = c .before .before .loop .at in rw (add-sub-cancel-left) (omega (arith, length-take few (drop at (c .before .before .before .before .args .kinds .now))))
 
 cast-count : tie.Need-cast-count Inv-loop μ-loop
 cast-count c = search needs
 
 add-count : tie.Need-add-count Inv-loop μ-loop
-add-count c = let n = c .before .before .loop .inv .1 in omega (arith, kinds-few (c .before .before .before .args .kinds .now) (c .before .before .before .args .kind) (c .before .before .loop .i), at-most (eqb (getD (c .before .before .before .args .kinds .now) (c .before .before .loop .i) 0) (c .before .before .before .args .kind)))
-
-add-i : tie.Need-add-i Inv-loop μ-loop
-add-i c = search needs
+add-count c = let n = c .before .before .before .loop .inv .1 in omega (arith, kinds-few (c .before .before .before .before .before .args .kinds .now) (c .before .before .before .before .before .args .kind) (c .before .before .before .loop .at))
 
 loop-less : tie.Need-loop-less Inv-loop μ-loop
 loop-less c = search needs
 
 loop-again : tie.Need-loop-again Inv-loop μ-loop
-loop-again c = (search needs, rw (c .before .before .loop .inv .1, as-number) (sym (kinds-next _ _ _)))
+loop-again c = let at = c .before .before .before .loop .at in (omega (arith, c .before .before .loop-test .taken), rw (c .before .before .before .loop .inv .1, c .count-few .ensures, add-sub-cancel-left) (sym (kinds-cut (c .before .before .before .before .before .args .kinds .now) (c .before .before .before .before .before .args .kind) at few (c .before .before .loop-test .taken))))
+
+sub-count-few-2 : tie.Need-sub-count-few-2 Inv-loop μ-loop
+sub-count-few-2 c = search needs
+
+part-count-few-start-2 : tie.Need-part-count-few-start-2 Inv-loop μ-loop
+part-count-few-start-2 c = search needs
+
+part-count-few-end-2 : tie.Need-part-count-few-end-2 Inv-loop μ-loop
+part-count-few-end-2 c = search needs
+
+count-few-requires-2 : tie.Need-count-few-requires-2 Inv-loop μ-loop
+count-few-requires-2 c κs = let at = c .before .before .loop .at in let ks = c .before .before .before .before .args .kinds .now in omega (arith, length-take (length ks - at) (drop at ks), length-drop at ks, c .before .loop-test .left)
+
+cast-result : tie.Need-cast-result Inv-loop μ-loop
+cast-result c = search needs
+
+add-result : tie.Need-add-result Inv-loop μ-loop
+add-result c = let n = c .before .before .before .loop .inv .1 in omega (arith, kinds-few (c .before .before .before .before .before .args .kinds .now) (c .before .before .before .before .before .args .kind) (c .before .before .before .loop .at))
 
 returns : tie.Need-returns Inv-loop μ-loop
-returns c = let e : c .before .loop .i ≡ length (c .before .before .args .kinds .now) = omega arith in rw e at (c .before .loop .inv .1) ∙ kinds-all _ _
+returns c = rw (c .before .before .before .loop .inv .1, c .count-few2 .ensures) (kinds-rest (c .before .before .before .before .before .args .kinds .now) (c .before .before .before .before .before .args .kind) (c .before .before .before .loop .at) (c .before .before .before .loop .inv .0))
 
 pub count-kind-spec : {M : Type 1} → statement M
 count-kind-spec =
@@ -59,10 +78,20 @@ count-kind-spec =
     Inv-loop
     μ-loop
     loop-holds
-    shared-slice-read-count
+    add-loop
+    add-end
+    sub-count-few
+    part-count-few-start
+    part-count-few-end
+    count-few-requires
     cast-count
     add-count
-    add-i
     loop-less
     loop-again
+    sub-count-few-2
+    part-count-few-start-2
+    part-count-few-end-2
+    count-few-requires-2
+    cast-result
+    add-result
     returns)

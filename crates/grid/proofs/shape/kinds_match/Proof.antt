@@ -2,7 +2,7 @@
 use native.Mathlib.Omega.{arith}
 use mathlib.Core.Path.{sym}
 use Rattle.lists.specs.Bool.{_and_}
-use Rattle.grid.specs.KindsFacts.{match-short, match-both, match-three, match-four}
+use Rattle.grid.specs.KindsFacts.{cells-few, match-short, match-both, match-three, match-four}
 use borrow.Author.Needs.{needs}
 use Rattle.grid.proofs.shape.kinds_match.Statement.{statement}
 use Rattle.grid.proofs.shape.kinds_match.Tie as tie
@@ -27,18 +27,18 @@ returns-3 : tie.Need-returns-3
 unfolding _and_
 returns-3 c = rw (c .all-are2 .ensures) (sym (match-four _ _ (omega (arith, c .before .before .before .before .wide .ensures)) _ _ (omega arith)))
 
-kinds-known-requires : tie.Need-kinds-known-requires
-kinds-known-requires c κs = search needs
-
 count-kind-requires : tie.Need-count-kind-requires
 count-kind-requires c κs = search needs
 
-count-kind-requires-2 : tie.Need-count-kind-requires-2
-count-kind-requires-2 c κs = search needs
+kinds-known-requires : tie.Need-kinds-known-requires
+kinds-known-requires c κs = search needs
+
+sub-result : tie.Need-sub-result
+sub-result c = omega (arith, c .before .count-kind .ensures, cells-few (c .before .before .before .before .before .before .before .args .kinds .now) 4, c .before .before .before .before .before .wide .ensures)
 
 returns-4 : tie.Need-returns-4
 unfolding _and_
-returns-4 c = rw (c .before .before .kinds-known .ensures, c .before .count-kind .ensures, c .count-kind2 .ensures) (sym (match-both _ _ (omega (arith, c .before .before .before .before .before .before .wide .ensures)) _ _))
+returns-4 c = rw (c .kinds-known .ensures, c .before .count-kind .ensures) (sym (match-both _ _ (omega (arith, c .before .before .before .before .before .wide .ensures)) _ _))
 
 pub kinds-match-spec : {M : Type 1} → statement M
 kinds-match-spec =
@@ -50,7 +50,7 @@ kinds-match-spec =
     returns-2
     all-are-requires-2
     returns-3
-    kinds-known-requires
     count-kind-requires
-    count-kind-requires-2
+    kinds-known-requires
+    sub-result
     returns-4)
