@@ -573,11 +573,16 @@ pub fn sparse_rows(
     answered(gathered.refusal, gathered.kept)
 }
 
-fn added(answer: CAdded) -> (Run, Result<(), Refusal>) {
-    (answer.run.into(), answered(answer.refusal, ()))
-}
-
 impl Run {
+    /// The run at the position that a call hands back. That nothing else of it changes is proved for each call: `moved` in `crates/seivalto/specs/Forms.antt`.
+    fn at(self, position: u32) -> Run {
+        Run { position, ..self }
+    }
+
+    fn added(self, answer: CAdded) -> (Run, Result<(), Refusal>) {
+        (self.at(answer.run.position), answered(answer.refusal, ()))
+    }
+
     /// The record at the run's position.
     pub fn look(self, plan: Plan<'_>) -> (Run, Result<Record, Refusal>) {
         // SAFETY: each pointer and length is a slice's; the library asks nothing more.
@@ -594,7 +599,7 @@ impl Run {
                 plan.work.len(),
             )
         };
-        (looked.run.into(), answered(looked.refusal, looked.record))
+        (self.at(looked.run.position), answered(looked.refusal, looked.record))
     }
 
     /// Adds the local matrix of the distant pair at the run's position.
@@ -605,7 +610,7 @@ impl Run {
         matrix: &mut [f64],
     ) -> (Run, Result<(), Refusal>) {
         // SAFETY: each pointer and length is a slice's, and the `&mut` slice overlaps no other; the library asks nothing more.
-        added(unsafe {
+        self.added(unsafe {
             ffi::seivalto_add_distant(
                 self.into(),
                 plan.kinds.as_ptr(),
@@ -646,7 +651,7 @@ impl Run {
         matrix: &mut [f64],
     ) -> (Run, Result<(), Refusal>) {
         // SAFETY: each pointer and length is a slice's, and the `&mut` slice overlaps no other; the library asks nothing more.
-        added(unsafe {
+        self.added(unsafe {
             ffi::seivalto_add_touching(
                 self.into(),
                 plan.kinds.as_ptr(),
@@ -684,7 +689,7 @@ impl Run {
         lists: EntryLists<'_>,
     ) -> (Run, Result<(), Refusal>) {
         // SAFETY: each pointer and length is a slice's, and the `&mut` slices overlap no other; the library asks nothing more.
-        added(unsafe {
+        self.added(unsafe {
             ffi::seivalto_add_entries(
                 self.into(),
                 plan.kinds.as_ptr(),

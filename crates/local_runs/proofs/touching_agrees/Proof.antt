@@ -1,5 +1,5 @@
 -- `local_runs::touching_agrees` is safe: a pair that is not refused fits. Assumes nothing.
-use mathlib.Core.Path.{sym, _∙_}
+use mathlib.Core.Path.{refl, sym, _∙_}
 use borrow.Author.Tests.{not-false}
 use Rattle.lent_numbers.specs.Sizes.{touching-fits}
 use borrow.Author.Needs.{needs}
@@ -19,7 +19,7 @@ returns-2 : tie.Need-returns-2
 returns-2 c = search needs
 
 touching-matrix-requires : tie.Need-touching-matrix-requires
-touching-matrix-requires c κs = touching-fits _ _ _ _ (sym (c .before .before .before .integrand-right .ensures) ∙ not-false _ (c .before .before .if1 .left)) (c .before .before .before .before .before .before .before .before .before .before .before .pre .0) (c .before .before .before .before .before .before .before .before .before .before .before .pre .1) (sym (c .before .touching-refusal .ensures) ∙ c .if2 .left)
+touching-matrix-requires c κs = (touching-fits _ _ _ _ (sym (c .before .before .before .before .integrand-right .ensures) ∙ not-false _ (c .before .before .before .if1 .left)) (c .before .before .before .before .before .before .before .before .before .before .before .before .pre .0) (c .before .before .before .before .before .before .before .before .before .before .before .before .pre .1) (sym (c .before .before .touching-refusal .ensures) ∙ c .before .if2 .left), refl)
 
 same-entries-requires : tie.Need-same-entries-requires
 same-entries-requires c κs = search needs
