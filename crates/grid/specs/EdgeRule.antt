@@ -12,7 +12,7 @@ use lib.Seq.{sets, length-sets, getD-set-same, getD-set-other}
 use lib.Dec.{ltb, eqb}
 use borrow.Author.Tests.{lt-ltb, le-ltb, eqb-true, eqb-false, eq-eqb, not-true, not-false}
 use Rattle.lists.specs.Bool.{_and_, _or_, iff, true≢false, same-test, every, every-at, and-left, and-right, and-both, and-no-left, or-cases, or-left, or-right, or-no-left, or-no-right}
-use Rattle.lists.specs.Bounded.{all, all-of, all-fails, all-ext, some, some-not, some-which, lt-or-le, eq-or-ne}
+use Rattle.lists.specs.Bounded.{all, all-of, all-fails, all-ext, some, some-at, some-not, some-which, lt-or-le, eq-or-ne}
 use Rattle.lists.specs.Range.{range, length-range, map-at, part-all, flatMap-none, flatMap-range}
 use Rattle.lists.specs.Stores.{sets-append, sets-all}
 use Rattle.numbers.specs.Ranges.{within, allBelow, within-high, below-at}
@@ -63,6 +63,35 @@ pub record Known (ps es keys : List ℕ) (count k : ℕ) : Type 0 where
   pub kept : (p : ℕ) → p < k → getD keys (getD es p 0) 0 ≡ getD ps p 0
   pub source : (e : ℕ) → e < count → (getD keys e 0 ≡ noKey → ⊥) → (p : ℕ) × (p < k) × (getD es p 0 ≡ e) × (getD ps p 0 ≡ getD keys e 0)
   pub apart : (p q : ℕ) → p < k → q < k → getD ps p 0 ≡ getD ps q 0 → getD es p 0 ≡ getD es q 0
+
+-- from top on no edge has a key
+pub record Unmarked (keys : List ℕ) (top count : ℕ) : Type 0 where
+  pub below : top ≤ count
+  pub none : (e : ℕ) → top ≤ e → e < count → getD keys e 0 ≡ noKey
+
+pub unmarked-first : (count : ℕ) → count ≤ mostEdges → Unmarked (replicate mostEdges noKey) 0 count
+unmarked-first count few = record { below = omega arith; none = λ e h l. getD-replicate mostEdges e noKey 0 (omega arith) }
+
+pub unmarked-later : {keys : List ℕ} {top next count : ℕ} → Unmarked keys top count → top ≤ next → next ≤ count → Unmarked keys next count
+unmarked-later w h l = record { below = l; none = λ e g k. w .none e (omega arith) k }
+
+pub unmarked-set : {keys : List ℕ} {top count : ℕ} (e x : ℕ) → Unmarked keys top count → e < top → Unmarked (set keys e x) top count
+unmarked-set {keys} e x w h = record { below = w .below; none = λ f g k. getD-set-other keys e f x 0 (λ q. absurd (omega arith)) ∙ w .none f g k }
+
+-- so only those below need be looked at
+pub may-short : {keys : List ℕ} {top count : ℕ} (e x : ℕ) → Unmarked keys top count → x < noKey → mayHave keys top e x ≡ mayHave keys count e x
+unfolding mayHave
+may-short {keys} {top} {count} e x w small =
+    ap (λ (b : Bool). eqb (getD keys e 0) x or (eqb (getD keys e 0) noKey and not b)) (same-test (hasKey keys top x) (hasKey keys count x) there back)
+  where
+    there : hasKey keys top x ≡ true → hasKey keys count x ≡ true
+    there t = let f : (f : ℕ) × (f < top) × (eqb (getD keys f 0) x ≡ true) = some-which top (λ y. eqb (getD keys y 0) x) t in some-at count (λ y. eqb (getD keys y 0) x) (f .0) (omega (arith, f .1, w .below)) (f .2)
+
+    back : hasKey keys count x ≡ true → hasKey keys top x ≡ true
+    back t =
+        let f : (f : ℕ) × (f < count) × (eqb (getD keys f 0) x ≡ true) = some-which count (λ y. eqb (getD keys y 0) x) t in
+        ⊎-elim (λ l. some-at top (λ y. eqb (getD keys y 0) x) (f .0) l (f .2))
+        (λ l. absurd (omega (arith, small, eqb-true (getD keys (f .0) 0) x (f .2), w .none (f .0) l (f .1)))) (lt-or-le (f .0) top)
 
 -- ---- two pairs are the same two exactly when their keys are the same
 

@@ -7,7 +7,7 @@ use crate::shape::end_of;
 use crate::shape::write_cell_keys;
 use numbers::wide;
 ghost use mathlib.Core.Path.{_≡_};
-ghost use Prim.Native.Nat.{_<_, _≤_};
+ghost use Prim.Native.Nat.{ℕ, _<_, _≤_};
 ghost use mathlib.Core.Bool.{true};
 ghost use lib.ListN.{length};
 ghost use Rattle.grid.specs.Cells.{before, own};
@@ -62,18 +62,28 @@ fn may_have(keys: &[u32; MOST_EDGES], count: usize, edge: usize, key: u32) -> bo
     }
 }
 
+// The smallest number that is at least top and above the edge.
+fn past(top: usize, edge: usize) -> usize
+    requires { ⌜ edge < mostEdges ⌝ }
+    ensures { λ r. ⌜ (top ≤ r) × (edge < r) × ((m : ℕ) → top ≤ m → edge < m → r ≤ m) ⌝ }
+{
+    if top <= edge { edge + 1 } else { top }
+}
+
 // Whether each edge, of so many, has one key at all its places, and no two edges have the same, where the keys of the edge places are given. An edge that no place
-// passed has is marked with NO_KEY.
+// passed has is marked with NO_KEY; those past the largest number so far are not looked at.
 fn keys_agree(places: &[u32], edges: &[u32], count: usize) -> bool
     requires { ⌜ Numbered (now places) (now edges) count ⌝ }
     ensures { λ r. ⌜ r ≡ keysAgree (now (places .entry)) (now (edges .entry)) ⌝ }
 {
     let mut keys = [NO_KEY; MOST_EDGES];
+    let mut top = 0;
     let mut k = 0;
     while k < edges.len() {
         let edge = wide(edges[k]);
         let key = places[k];
-        if may_have(&keys, count, edge, key) {
+        top = past(top, edge);
+        if may_have(&keys, top, edge, key) {
             keys[edge] = key;
             k += 1;
         } else {
