@@ -19,7 +19,7 @@ use Rattle.grid.specs.Facts.{vertices-differ}
 use Rattle.cell_pairs.specs.Matches.{Match, _↔_, matches}
 use Rattle.cell_pairs.specs.Records.{patternCount}
 use Rattle.cell_pairs.specs.Table.{pattern, numberOf}
-use Rattle.cell_patterns.specs.Flat.{cellsRight}
+use Rattle.triangle_patterns.specs.Triangles.{cellsRight}
 use Rattle.cell_patterns.specs.Shared.{listed, placeIn}
 
 -- each place in the two lists is below 4

@@ -2,15 +2,18 @@
 // cell: the fourth of a triangle is `none`, the number of no vertex.
 mod shared; // shared.rt: cells of any kinds
 
-use cell_pairs::NO_PATTERN;
 use cells_by_key::by_key;
 use cells_by_key::part_of;
 use grid::MOST_CELLS;
 use grid::MOST_VERTICES;
+use grid::cell_of;
 use grid::has_entity;
+use grid::is_triangle;
 use numbers::wide;
 use shared::cells_pattern;
 use shared::cells_right;
+use triangle_patterns::triangles_pattern;
+use triangle_patterns::triangles_right;
 ghost use mathlib.Core.Path.{_≡_};
 ghost use mathlib.Core.Bool.{true};
 ghost use Prim.Native.Nat.{ℕ, _+_, _*_, _/_, _^_, _≤_, _<_};
@@ -18,122 +21,12 @@ ghost use lib.ListN.{length, getD};
 ghost use lib.Dec.{eqb};
 ghost use Rattle.lists.specs.Bool.{_and_};
 ghost use Rattle.lists.specs.Bounded.{all};
-ghost use Rattle.grid.specs.Cells.{distinct};
-ghost use Rattle.grid.specs.Rows.{entity, cellIn};
+ghost use Rattle.grid.specs.Rows.{entity};
 ghost use Rattle.grid.specs.RowsFacts.{Padded};
 ghost use Rattle.grid.specs.Mesh.{mostCells, mostVertices};
 ghost use Rattle.cells_by_key.specs.Groups.{Cells, Cut, Below, Zeros, part};
-ghost use Rattle.cell_pairs.specs.Patterns.{cellsPattern};
-ghost use Rattle.cell_pairs.specs.Table.{pattern, numberOf};
-ghost use Rattle.cell_pairs.specs.MatchesFacts.{place, matchesAt, Places};
-ghost use Rattle.cell_patterns.specs.Flat.{distinctIn, three, patternIn, smallestIn, cellsRight, pairRight, patternsIn};
-ghost use Rattle.cell_patterns.specs.PatternFacts.{threePattern, Apart, groupRight, lower};
-
-// ---- two triangles
-
-// The place of the vertex x in a triangle, 3 where it has none.
-fn place_of(rows: &[u32], cell: usize, x: u32) -> u32
-    requires { ⌜ 4 * cell + 4 ≤ length (now rows) ⌝ }
-    ensures { λ r. ⌜ r ≡ place (three (now (rows .entry)) cell) x ⌝ }
-{
-    let at = 4 * cell;
-    if rows[at] == x {
-        return 0;
-    }
-    if rows[at + 1] == x {
-        return 1;
-    }
-    if rows[at + 2] == x {
-        return 2;
-    }
-    3
-}
-
-// The pattern of three shared vertices; NO_PATTERN where they stand in another order, and where none is shared.
-fn all_three(a: u32, b: u32, c: u32) -> u32
-    ensures { λ r. ⌜ r ≡ threePattern a b c ⌝ }
-{
-    if (a == 0) & (b == 1) & (c == 2) {
-        27
-    } else {
-        NO_PATTERN
-    }
-}
-
-// The pattern of triangles whose trial vertices 0, 1 and 2 have the test places a, b and c, 3 for one that is not shared. A case is these three, two bits each, and
-// beside it stands its list of (test place, trial place).
-fn pattern_at(a: u32, b: u32, c: u32) -> u32
-    requires { ⌜ Places a b c ⌝ }
-    ensures { λ r. ⌜ r ≡ numberOf (pattern 3 3 (matchesAt a b c)) ⌝ }
-{
-    match 16 * a + 4 * b + c {
-        0b00_11_11 => 0, // (0,0)
-        0b11_00_11 => 1, // (0,1)
-        0b11_11_00 => 2, // (0,2)
-        0b01_11_11 => 3, // (1,0)
-        0b11_01_11 => 4, // (1,1)
-        0b11_11_01 => 5, // (1,2)
-        0b10_11_11 => 6, // (2,0)
-        0b11_10_11 => 7, // (2,1)
-        0b11_11_10 => 8, // (2,2)
-        0b11_01_10 => 9, // (1,1), (2,2)
-        0b11_10_01 => 10, // (2,1), (1,2)
-        0b01_11_10 => 11, // (1,0), (2,2)
-        0b10_11_01 => 12, // (2,0), (1,2)
-        0b01_10_11 => 13, // (1,0), (2,1)
-        0b10_01_11 => 14, // (2,0), (1,1)
-        0b11_00_10 => 15, // (0,1), (2,2)
-        0b11_10_00 => 16, // (2,1), (0,2)
-        0b00_11_10 => 17, // (0,0), (2,2)
-        0b10_11_00 => 18, // (2,0), (0,2)
-        0b00_10_11 => 19, // (0,0), (2,1)
-        0b10_00_11 => 20, // (2,0), (0,1)
-        0b11_00_01 => 21, // (0,1), (1,2)
-        0b11_01_00 => 22, // (1,1), (0,2)
-        0b00_11_01 => 23, // (0,0), (1,2)
-        0b01_11_00 => 24, // (1,0), (0,2)
-        0b00_01_11 => 25, // (0,0), (1,1)
-        0b01_00_11 => 26, // (1,0), (0,1)
-        _ => all_three(a, b, c),
-    }
-}
-
-// The pattern of triangles i and j, NO_PATTERN where it is none of the table. Neither may have a vertex twice.
-fn triangles_pattern(rows: &[u32], i: usize, j: usize) -> u32
-    requires { ⌜ (4 * i + 4 ≤ length (now rows)) × (4 * j + 4 ≤ length (now rows)) ⌝ }
-    requires { ⌜ (distinct (three (now rows) i) ≡ true) × (distinct (three (now rows) j) ≡ true) ⌝ }
-    ensures { λ r. ⌜ r ≡ cellsPattern (three (now (rows .entry)) i) (three (now (rows .entry)) j) ⌝ }
-{
-    let at = 4 * j;
-    let a = place_of(rows, i, rows[at]);
-    let b = place_of(rows, i, rows[at + 1]);
-    let c = place_of(rows, i, rows[at + 2]);
-    pattern_at(a, b, c)
-}
-
-// Check 7 of triangles i and j: the lists of two that share three vertices must be the same. The fourth number of row i is no vertex of j.
-fn triangles_right(rows: &[u32], i: usize, j: usize) -> bool
-    requires { ⌜ (4 * i + 4 ≤ length (now rows)) × (4 * j + 4 ≤ length (now rows)) ⌝ }
-    requires { ⌜ (distinct (three (now rows) i) ≡ true) × (distinct (three (now rows) j) ≡ true) ⌝ }
-    requires { ⌜ ((p : ℕ) → p < 3 → entity (now rows) j p ≡ entity (now rows) i 3 → ⊥) ⌝ }
-    ensures { λ r. ⌜ r ≡ cellsRight (three (now (rows .entry)) i) (three (now (rows .entry)) j) ⌝ }
-{
-    let at = 4 * j;
-    let x = rows[at];
-    if !has_entity(rows, i, x) {
-        return true;
-    }
-    let y = rows[at + 1];
-    if !has_entity(rows, i, y) {
-        return true;
-    }
-    let z = rows[at + 2];
-    if !has_entity(rows, i, z) {
-        return true;
-    }
-    let own = 4 * i;
-    (rows[own] == x) & (rows[own + 1] == y) & (rows[own + 2] == z)
-}
+ghost use Rattle.cell_patterns.specs.Flat.{distinctIn, patternIn, smallestIn, pairRight, patternsIn};
+ghost use Rattle.cell_patterns.specs.PatternFacts.{Apart, groupRight, lower};
 
 // ---- rows
 
@@ -142,20 +35,7 @@ fn both_triangles(rows: &[u32], none: u32, i: usize, j: usize) -> bool
     requires { ⌜ (4 * i + 4 ≤ length (now rows)) × (4 * j + 4 ≤ length (now rows)) ⌝ }
     ensures { λ r. ⌜ r ≡ (eqb (entity (now (rows .entry)) i 3) none and eqb (entity (now (rows .entry)) j 3) none) ⌝ }
 {
-    (rows[4 * i + 3] == none) & (rows[4 * j + 3] == none)
-}
-
-// The vertices of a cell.
-fn cell_of<'a>(rows: &'a [u32], none: u32, i: usize) -> &'a [u32]
-    requires { ⌜ 4 * i + 4 ≤ length (now rows) ⌝ }
-    ensures { λ r. ⌜ now r ≡ cellIn none (now (rows .entry)) i ⌝ }
-{
-    let at = 4 * i;
-    if rows[at + 3] == none {
-        &rows[at..at + 3]
-    } else {
-        &rows[at..at + 4]
-    }
+    is_triangle(rows, none, i) & is_triangle(rows, none, j)
 }
 
 // The pattern of test cell i and trial cell j, NO_PATTERN where it is none of the table. No cell may have a vertex twice.

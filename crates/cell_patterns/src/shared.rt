@@ -13,7 +13,7 @@ ghost use Rattle.grid.specs.Cells.{distinct, endsOf, sameTwo};
 ghost use Rattle.cell_pairs.specs.Matches.{_↔_, matches};
 ghost use Rattle.cell_pairs.specs.Patterns.{cellsPattern};
 ghost use Rattle.cell_pairs.specs.Table.{pattern, numberOf, blockStart, edgeJoining, inBlock};
-ghost use Rattle.cell_patterns.specs.Flat.{cellsRight};
+ghost use Rattle.triangle_patterns.specs.Triangles.{cellsRight};
 ghost use Rattle.pattern_table.specs.Numbers.{codeOf};
 ghost use Rattle.cell_patterns.specs.Shared.{placeIn, listed};
 ghost use Rattle.cell_patterns.specs.SharedFacts.{Small};

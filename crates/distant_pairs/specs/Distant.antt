@@ -9,7 +9,7 @@ use lib.ListN.{length}
 use lib.Dec.{eqb, ltb}
 use Rattle.lists.specs.Range.{range, batch}
 use Rattle.grid.specs.Cells.{share as share-number}
-use Rattle.grid.specs.Rows.{entity, row, share}
+use Rattle.grid.specs.Rows.{entity, row, share, fourthOrFirst}
 use Rattle.cell_pairs.specs.declared.WorkRecord.{WorkRecord}
 use Rattle.cell_pairs.specs.WorkList.{batches, distantPair, distantBatch, distantColours}
 use Rattle.cells_by_key.specs.Groups.{from, part}
@@ -19,7 +19,7 @@ pub record Corners (none : ℕ) (rows : List ℕ) (j a b c d : ℕ) : Type 0 whe
   pub first : a ≡ entity rows j 0
   pub second : b ≡ entity rows j 1
   pub third : c ≡ entity rows j 2
-  pub fourth : d ≡ cond (eqb (entity rows j 3) none) (entity rows j 0) (entity rows j 3)
+  pub fourth : d ≡ fourthOrFirst none rows j
 
 -- one of a, b, c and d is in the row of cell i
 unfoldable pub hasOneOf : List ℕ → ℕ → ℕ → ℕ → ℕ → ℕ → Bool

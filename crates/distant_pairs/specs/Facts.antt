@@ -14,7 +14,7 @@ use Rattle.lists.specs.Bounded.{lt-or-le, eq-or-ne}
 use Rattle.lists.specs.Range.{range, when, filter, batch, flatMap-nil, flatMap-below, flatMap-filter}
 use Rattle.grid.specs.Cells.{has as has-number, share as share-number}
 use Rattle.grid.specs.CellsFacts.{Shaped, share-which, share-at, has-at, has-place}
-use Rattle.grid.specs.Rows.{rowsOf, row, entity, cellIn, has, share}
+use Rattle.grid.specs.Rows.{rowsOf, row, entity, cellIn, fourthOrFirst, has, share}
 use Rattle.grid.specs.RowsFacts.{Padded, cell-three, cell-four, cell-entity, cell-in-row, cell-number, has-row, share-rows}
 use Rattle.grid.specs.Mesh.{Mesh, kind, corners, cellsOf, kindsPresent}
 use Rattle.grid.specs.KindsFacts.{kind-present}
@@ -31,7 +31,7 @@ use Rattle.distant_pairs.specs.Distant.{Corners, hasOneOf, half, hasCell
 -- ---- a pair
 
 -- as they are read
-pub corners-read : {none : ℕ} (rows : List ℕ) {j k d : ℕ} → k ≡ j → d ≡ cond (eqb (getD rows (4 * k + 3) 0) none) (getD rows (4 * k) 0) (getD rows (4 * k + 3) 0)
+pub corners-read : {none : ℕ} (rows : List ℕ) {j k d : ℕ} → k ≡ j → d ≡ fourthOrFirst none rows k
     → Corners none rows j (getD rows (4 * k) 0) (getD rows (4 * k + 1) 0) (getD rows (4 * k + 2) 0) d
 corners-read {none} rows {j} {k} {d} e f =
     let zero-at : 4 * j + 0 ≡ 4 * k = omega (arith, e) in
@@ -39,12 +39,13 @@ corners-read {none} rows {j} {k} {d} e f =
       first = ap (λ (n : ℕ). getD rows n 0) (sym zero-at);
       second = rw e;
       third = rw e;
-      fourth = f ∙ ap₂ (λ (m n : ℕ). cond (eqb (getD rows m 0) none) (getD rows n 0) (getD rows m 0)) (ap (λ (x : ℕ). 4 * x + 3) e) (sym zero-at);
+      fourth = f ∙ ap (fourthOrFirst none rows) e;
     }
 
 -- the four are the vertices of the cell
 module _ {none : ℕ} {rows : List ℕ} {j a b c d : ℕ} (at : Corners none rows j a b c d) where
   three-or-four : ((length (cellIn none rows j) ≡ 3) × (d ≡ a)) ⊎ ((length (cellIn none rows j) ≡ 4) × (d ≡ entity rows j 3))
+  unfolding fourthOrFirst
   three-or-four =
       ⊎-elim (λ e. inl (ap length (cell-three none rows j e), at .fourth ∙ rw (eq-eqb _ _ e) (sym (at .first))))
       (λ e. inr (ap length (cell-four none rows j e), at .fourth ∙ rw (ne-eqb _ _ e))) (eq-or-ne (entity rows j 3) none)

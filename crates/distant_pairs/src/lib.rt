@@ -8,12 +8,11 @@ use cell_pairs::WorkRecord;
 use cell_pairs::put_record;
 use cells_by_key::part_of;
 use cells_by_key::start_of;
+use grid::fourth_or_first;
 use numbers::wide;
 ghost use mathlib.Core.Path.{_≡_};
-ghost use mathlib.Core.Bool.{cond};
 ghost use Prim.Native.Nat.{_+_, _*_, _≤_, _<_};
 ghost use lib.ListN.{length};
-ghost use lib.Dec.{eqb};
 ghost use Rattle.lists.specs.Range.{batch};
 ghost use Rattle.lists.specs.Writes.{Wrote, Room};
 ghost use Rattle.grid.specs.Rows.{share};
@@ -70,14 +69,6 @@ fn write_pair(
     }
 }
 
-// The fourth vertex of a cell, or where it has none its first again: so `none`, in the row of a test
-// cell, is none of the four.
-fn fourth_or(fourth: u32, none: u32, first: u32) -> u32
-    ensures { λ r. ⌜ r ≡ cond (eqb fourth none) first fourth ⌝ }
-{
-    if fourth == none { first } else { fourth }
-}
-
 // One trial cell against a batch of test cells.
 fn write_row(
     rows: &[u32],
@@ -94,11 +85,12 @@ fn write_row(
     ensures { λ r. ⌜ Wrote records (now (work .entry)) (now (work .exit)) at r
         (distantRow none (now (rows .entry)) (now (tests .entry)) trial) ⌝ }
 {
-    let corner = 4 * wide(trial);
+    let cell = wide(trial);
+    let corner = 4 * cell;
     let a = rows[corner];
     let b = rows[corner + 1];
     let c = rows[corner + 2];
-    let d = fourth_or(rows[corner + 3], none, a);
+    let d = fourth_or_first(rows, none, cell);
     let mut next = at;
     for k in 0..tests.len() {
         next = write_pair(rows, tests[k], trial, a, b, c, d, work, next);

@@ -1,14 +1,14 @@
 -- What check 4 says of one side: of the dim of a kind that is present, and of both elements where both kinds are. Assumes nothing.
 use Prim.Native.Nat.{ℕ, _<_}
 use native.Mathlib.Omega.{arith}
-use mathlib.Core.Bool.{true}
-use mathlib.Core.Path.{_≡_, sym, ap, _∙_}
+use mathlib.Core.Bool.{Bool, true, false}
+use mathlib.Core.Path.{_≡_, refl, sym, ap, _∙_}
 use mathlib.Core.Logic.{_⊎_, inl, inr, ⊎-elim}
 use mathlib.Core.List.{List}
 use lib.ListN.{getD}
 use lib.Dec.{eqb}
-use borrow.Author.Tests.{eqb-true}
-use Rattle.lists.specs.Bool.{_and_, _or_, every-at, and-left, and-right, or-cases}
+use borrow.Author.Tests.{eqb-true, eq-eqb, ne-eqb}
+use Rattle.lists.specs.Bool.{_and_, _or_, every, every-at, and-left, and-right, or-cases}
 use Rattle.numbers.specs.Ranges.{within}
 use Rattle.grid.specs.Mesh.{cellsOf}
 use Rattle.grid.specs.KindsFacts.{Kinded, kind-present}
@@ -34,6 +34,37 @@ module _ (triangles quads : ℕ) (es : Elements) (right : elementsRight triangle
   both h k =
       ⊎-elim (λ e. ⊎-elim (λ t. absurd (some triangles h t)) (λ q. absurd (some quads k q)) (or-cases _ _ e)) (λ e. e)
       (or-cases (eqb triangles 0 or eqb quads 0) _ (every-at _ right 2))
+
+-- what is left of it where a kind is not present, and where both are
+first-alone : (a w m s : Bool) → (a or w) and (true or m) and (a or true or s) ≡ (a or w)
+unfolding _and_ _or_
+first-alone true w m s = refl
+first-alone false true m s = refl
+first-alone false false m s = refl
+
+second-alone : (w m s : Bool) → (true or w) and (false or m) and (true or false or s) ≡ m
+unfolding _and_ _or_
+second-alone w true s = refl
+second-alone w false s = refl
+
+two-kinds : (w m s : Bool) → (false or w) and (false or m) and (false or false or s) ≡ w and m and s
+unfolding _or_
+two-kinds w m s = refl
+
+module _ (triangles quads : ℕ) (es : Elements) where
+  -- the dims as they are worked out
+  pub right-triangles : {m : ℕ} {w : Bool} → w ≡ within 1 mostDim m → m ≡ cellDim es 3 → quads ≡ 0 → eqb triangles 0 or w ≡ elementsRight triangles quads es
+  unfolding elementsRight every
+  right-triangles d e q = rw (d, e, eq-eqb quads 0 q) (sym (first-alone (eqb triangles 0) _ _ _))
+
+  pub right-quads : {n : ℕ} {v : Bool} → v ≡ within 1 mostDim n → n ≡ cellDim es 4 → (quads ≡ 0 → ⊥) → triangles ≡ 0 → v ≡ elementsRight triangles quads es
+  unfolding elementsRight every
+  right-quads d e q t = rw (d, e, ne-eqb quads 0 q, eq-eqb triangles 0 t) (sym (second-alone _ _ _))
+
+  pub right-both : {m n : ℕ} {w v : Bool} → w ≡ within 1 mostDim m → m ≡ cellDim es 3 → v ≡ within 1 mostDim n → n ≡ cellDim es 4 → (quads ≡ 0 → ⊥) → (triangles ≡ 0 → ⊥)
+      → w and v and (eqb (es .triangle .a) (es .quad .a) and eqb (es .triangle .b) (es .quad .b)) ≡ elementsRight triangles quads es
+  unfolding elementsRight every
+  right-both d e f g q t = rw (d, e, f, g, ne-eqb quads 0 q, ne-eqb triangles 0 t) (sym (two-kinds _ _ _))
 
 -- on cells of kinds 3 and 4
 module _ (C : ℕ) (ks : List ℕ) (known : Kinded C ks) (es : Elements) (right : elementsRight (cellsOf ks 3) (cellsOf ks 4) es ≡ true) where

@@ -7,7 +7,7 @@ ghost use lib.ListN.{length, getD};
 ghost use lib.Dec.{eqb};
 ghost use Rattle.lists.specs.Bounded.{least};
 ghost use Rattle.grid.specs.Cells.{shareIn};
-ghost use Rattle.grid.specs.Rows.{cellIn, share};
+ghost use Rattle.grid.specs.Rows.{share};
 ghost use Rattle.grid.specs.RowsFacts.{Padded};
 ghost use Rattle.grid.specs.Mesh.{mostCells, kindsPresent};
 ghost use Rattle.cells_by_key.specs.Groups.{ByEntity};
@@ -19,6 +19,7 @@ use cells_by_key::clear;
 use cells_by_key::part_of;
 use grid::MOST_CELLS;
 use grid::Sizes;
+use grid::cell_of;
 use grid::count_kind;
 use grid::write_rows;
 use numbers::wide;
@@ -38,14 +39,6 @@ fn mark_colours(cells: &[u32], colours: &[u32], i: usize, marks: &mut [usize; MO
     }
 }
 
-// How many numbers a cell has: three, where the fourth of its row is `none`.
-fn numbers_of(rows: &[u32], none: u32, cell: usize) -> usize
-    requires { ⌜ 4 * cell + 4 ≤ length (now rows) ⌝ }
-    ensures { λ r. ⌜ r ≡ length (cellIn none (now (rows .entry)) cell) ⌝ }
-{
-    if rows[4 * cell + 3] == none { 3 } else { 4 }
-}
-
 // Marks the colours of the cells before cell i that share an entity with it.
 fn mark_sharing(
     rows: &[u32],
@@ -62,10 +55,9 @@ fn mark_sharing(
     requires { ⌜ length (now marks) ≡ mostCells ⌝ }
     ensures { λ _. ⌜ Marked i (taken (share none (now (rows .entry))) (now (colours .entry)) i) (now (marks .entry)) (now (marks .exit)) ⌝ }
 {
-    let n = numbers_of(rows, none, i);
-    let at = 4 * i;
-    for p in 0..n {
-        let x = wide(rows[at + p]);
+    let cell = cell_of(rows, none, i);
+    for p in 0..cell.len() {
+        let x = wide(cell[p]);
         mark_colours(part_of(order, ends, x), colours, i, marks);
     }
 }

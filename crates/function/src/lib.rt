@@ -2,7 +2,8 @@
 use grid::corners_of;
 use numbers::wide;
 ghost use mathlib.Core.Path.{_≡_};
-ghost use Rattle.function.specs.Elements.{dimOf, elementOf, cellDim, elementsRight, dimsRight};
+ghost use Rattle.numbers.specs.Ranges.{within};
+ghost use Rattle.function.specs.Elements.{mostDim, dimOf, elementOf, cellDim, elementsRight, dimsRight};
 
 mod colouring;
 
@@ -12,6 +13,7 @@ pub use colouring::cell_colouring;
 pub const MOST_DIM: usize = 10;
 
 // DOFs per vertex (a), per edge (b) and per cell (c).
+#[repr(C)]
 pub struct Element {
     pub a: u32,
     pub b: u32,
@@ -28,7 +30,15 @@ impl Element {
     }
 }
 
+// Whether a cell may have so many local DOFs.
+fn is_dim(n: usize) -> bool
+    ensures { λ r. ⌜ r ≡ within 1 mostDim n ⌝ }
+{
+    (1 <= n) & (n <= MOST_DIM)
+}
+
 // An element for each kind of cell.
+#[repr(C)]
 pub struct Elements {
     pub triangle: Element,
     pub quad: Element,
@@ -50,17 +60,21 @@ impl Elements {
         element.dim(kind)
     }
 
-    // Check 4 of one side.
+    // Check 4 of one side. The element of a kind that is not present is not read.
     fn right(self, triangles: u32, quads: u32) -> bool
         ensures { λ r. ⌜ r ≡ elementsRight triangles quads self ⌝ }
     {
-        let m = self.dim(3);
-        let n = self.dim(4);
+        if quads == 0 {
+            return (triangles == 0) | is_dim(self.dim(3));
+        }
+        if triangles == 0 {
+            return is_dim(self.dim(4));
+        }
         let triangle = self.triangle;
         let quad = self.quad;
-        ((triangles == 0) | ((1 <= m) & (m <= MOST_DIM)))
-            & ((quads == 0) | ((1 <= n) & (n <= MOST_DIM)))
-            & ((triangles == 0) | (quads == 0) | ((triangle.a == quad.a) & (triangle.b == quad.b)))
+        is_dim(self.dim(3))
+            & is_dim(self.dim(4))
+            & ((triangle.a == quad.a) & (triangle.b == quad.b))
     }
 }
 

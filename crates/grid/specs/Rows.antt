@@ -27,6 +27,10 @@ row rows i = entity rows i 0 ∷ entity rows i 1 ∷ entity rows i 2 ∷ entity 
 unfoldable pub cellIn : ℕ → List ℕ → ℕ → List ℕ
 cellIn none rows i = cond (eqb (entity rows i 3) none) (entity rows i 0 ∷ entity rows i 1 ∷ entity rows i 2 ∷ []) (row rows i)
 
+-- the fourth number of cell i, or where it has none its first again
+unfoldable pub fourthOrFirst : ℕ → List ℕ → ℕ → ℕ
+fourthOrFirst none rows i = cond (eqb (entity rows i 3) none) (entity rows i 0) (entity rows i 3)
+
 -- x is one of the numbers of cell i, and cells i and j share one
 abbrev pub has : ℕ → List ℕ → ℕ → ℕ → Bool
 has none rows i x = has-number (cellIn none rows i) x

@@ -7,8 +7,8 @@ use mathlib.Core.Bool.{Bool, true, false, cond}
 use mathlib.Core.Path.{_≡_, refl, sym, ap, ap₂, subst, _∙_}
 use mathlib.Core.Logic.{⊎-elim}
 use mathlib.Core.List.{List, [], _∷_, _++_, flatMap, append-nil}
-use lib.ListN.{length, getD, set, take, drop, length-append, List·getD-append}
-use lib.Seq.{sets, length-sets}
+use lib.ListN.{length, getD, set, take, drop, length-append, length-drop, List·getD-append}
+use lib.Seq.{sets, length-sets, length-take-le, getD-take, getD-drop}
 use lib.Dec.{eqb}
 use borrow.Author.Tests.{eq-eqb, ne-eqb}
 use Rattle.lists.specs.Bool.{_and_, _or_, and-both}
@@ -20,6 +20,22 @@ use Rattle.grid.specs.CellsFacts.{Shaped, shaped-length, part-each, Begi
 use Rattle.grid.specs.Rows.{rowOf, rowsOf, entity, row, cellIn, has, share}
 
 -- ---- any rows
+
+-- a list of three, and of four
+pub three-long : (xs : List ℕ) → length xs ≡ 3 → xs ≡ getD xs 0 0 ∷ getD xs 1 0 ∷ getD xs 2 0 ∷ []
+three-long [] e = absurd (omega arith)
+three-long (a ∷ []) e = absurd (omega arith)
+three-long (a ∷ b ∷ []) e = absurd (omega arith)
+three-long (a ∷ b ∷ c ∷ []) e = refl
+three-long (a ∷ b ∷ c ∷ d ∷ xs) e = absurd (omega arith)
+
+pub four-long : (xs : List ℕ) → length xs ≡ 4 → xs ≡ getD xs 0 0 ∷ getD xs 1 0 ∷ getD xs 2 0 ∷ getD xs 3 0 ∷ []
+four-long [] e = absurd (omega arith)
+four-long (a ∷ []) e = absurd (omega arith)
+four-long (a ∷ b ∷ []) e = absurd (omega arith)
+four-long (a ∷ b ∷ c ∷ []) e = absurd (omega arith)
+four-long (a ∷ b ∷ c ∷ d ∷ []) e = refl
+four-long (a ∷ b ∷ c ∷ d ∷ x ∷ xs) e = absurd (omega arith)
 
 pub row-at : (rows : List ℕ) (i p : ℕ) → p < 4 → getD (row rows i) p 0 ≡ entity rows i p
 row-at rows i zero h = refl
@@ -104,6 +120,27 @@ module _ (none : ℕ) (rows : List ℕ) (i : ℕ) where
       (λ e. apart _ _ _ _ (subst (λ (xs : List ℕ). distinct xs ≡ true) (cell-three e) d) (λ (q : entity rows i 0 ≡ entity rows i 3). omega (arith, b 0 (omega arith))) (λ (q : entity rows i 1 ≡ entity rows i 3). omega (arith, b 1 (omega arith))) (λ (q : entity rows i 2 ≡ entity rows i 3). omega (arith, b 2 (omega arith))))
       (λ e. subst (λ (xs : List ℕ). distinct xs ≡ true) (cell-four e) d) (eq-or-ne (entity rows i 3) none)
 
+  -- the numbers of a cell, cut out of the list
+  module _ (h : 4 * i + 4 ≤ length rows) where
+    cut : (n : ℕ) → n ≤ 4 → length (take n (drop (4 * i) rows)) ≡ n
+    cut n l = length-take-le n (drop (4 * i) rows) (omega (arith, length-drop (4 * i) rows))
+
+    cut-at : (n p : ℕ) → p < n → getD (take n (drop (4 * i) rows)) p 0 ≡ entity rows i p
+    cut-at n p l = getD-take n (drop (4 * i) rows) p 0 l ∙ getD-drop (4 * i) rows p 0
+
+    pub cut-three : entity rows i 3 ≡ none → take (4 * i + 3 - 4 * i) (drop (4 * i) rows) ≡ cellIn none rows i
+    cut-three e =
+        let k : 4 * i + 3 - 4 * i ≡ 3 = omega arith in
+        rw k
+        (three-long _ (cut 3 (omega arith)) ∙ rw (cut-at 3 0 (omega arith), cut-at 3 1 (omega arith), cut-at 3 2 (omega arith)) (sym (cell-three e)))
+
+    pub cut-four : (entity rows i 3 ≡ none → ⊥) → take (4 * i + 4 - 4 * i) (drop (4 * i) rows) ≡ cellIn none rows i
+    cut-four e =
+        let k : 4 * i + 4 - 4 * i ≡ 4 = omega arith in
+        rw k
+        (four-long _ (cut 4 (omega arith))
+        ∙ rw (cut-at 4 0 (omega arith), cut-at 4 1 (omega arith), cut-at 4 2 (omega arith), cut-at 4 3 (omega arith)) (sym (cell-four e)))
+
 -- the first three numbers of each row are below `none`, so they are numbers of the cell
 pub record Padded (none : ℕ) (rows : List ℕ) : Type 0 where
   pub firsts : (i p : ℕ) → 4 * i + 4 ≤ length rows → p < 3 → entity rows i p < none
@@ -123,22 +160,6 @@ fours : (ks : List ℕ) (i : ℕ) → before (λ _. 4) ks i ≡ 4 * i
 unfolding before
 fours ks zero = refl
 fours ks (suc i) = omega (arith, fours ks i)
-
--- a list of three, and of four
-pub three-long : (xs : List ℕ) → length xs ≡ 3 → xs ≡ getD xs 0 0 ∷ getD xs 1 0 ∷ getD xs 2 0 ∷ []
-three-long [] e = absurd (omega arith)
-three-long (a ∷ []) e = absurd (omega arith)
-three-long (a ∷ b ∷ []) e = absurd (omega arith)
-three-long (a ∷ b ∷ c ∷ []) e = refl
-three-long (a ∷ b ∷ c ∷ d ∷ xs) e = absurd (omega arith)
-
-pub four-long : (xs : List ℕ) → length xs ≡ 4 → xs ≡ getD xs 0 0 ∷ getD xs 1 0 ∷ getD xs 2 0 ∷ getD xs 3 0 ∷ []
-four-long [] e = absurd (omega arith)
-four-long (a ∷ []) e = absurd (omega arith)
-four-long (a ∷ b ∷ []) e = absurd (omega arith)
-four-long (a ∷ b ∷ c ∷ []) e = absurd (omega arith)
-four-long (a ∷ b ∷ c ∷ d ∷ []) e = refl
-four-long (a ∷ b ∷ c ∷ d ∷ x ∷ xs) e = absurd (omega arith)
 
 module _ (none : ℕ) {ks l : List ℕ} (s : Shaped ks l) where
   abbrev C : ℕ

@@ -13,7 +13,7 @@ ghost use Rattle.lists.specs.Bounded.{all};
 ghost use Rattle.numbers.specs.Ranges.{allBelow};
 ghost use Rattle.grid.specs.Cells.{before, own, has, distinct};
 ghost use Rattle.grid.specs.CellsFacts.{Shaped};
-ghost use Rattle.grid.specs.Rows.{row, rowsOf};
+ghost use Rattle.grid.specs.Rows.{entity, row, rowsOf, cellIn, fourthOrFirst};
 ghost use Rattle.grid.specs.RowsFacts.{filled};
 ghost use Rattle.grid.specs.Mesh.{mostCells, mostVertices, cellsOf, kindsMatch};
 ghost use Rattle.grid.specs.KindsFacts.{few};
@@ -236,6 +236,40 @@ pub fn write_rows(kinds: &[u8], list: &[u32], none: u32, rows: &mut [u32])
         write_row(&list[at..end], none, rows, 4 * i);
         at = end;
         i += 1;
+    }
+}
+
+// Whether a cell is a triangle, by its row.
+pub fn is_triangle(rows: &[u32], none: u32, cell: usize) -> bool
+    requires { ⌜ 4 * cell + 4 ≤ length (now rows) ⌝ }
+    ensures { λ r. ⌜ r ≡ eqb (entity (now (rows .entry)) cell 3) none ⌝ }
+{
+    rows[4 * cell + 3] == none
+}
+
+// The numbers of a cell, three or four, from its row.
+pub fn cell_of<'a>(rows: &'a [u32], none: u32, cell: usize) -> &'a [u32]
+    requires { ⌜ 4 * cell + 4 ≤ length (now rows) ⌝ }
+    ensures { λ r. ⌜ now r ≡ cellIn none (now (rows .entry)) cell ⌝ }
+{
+    let at = 4 * cell;
+    if is_triangle(rows, none, cell) {
+        &rows[at..at + 3]
+    } else {
+        &rows[at..at + 4]
+    }
+}
+
+// The fourth number of a cell, from its row, or where it has none its first again: so `none`, in the row of another cell, is none of the four.
+pub fn fourth_or_first(rows: &[u32], none: u32, cell: usize) -> u32
+    requires { ⌜ 4 * cell + 4 ≤ length (now rows) ⌝ }
+    ensures { λ r. ⌜ r ≡ fourthOrFirst none (now (rows .entry)) cell ⌝ }
+{
+    let at = 4 * cell;
+    if is_triangle(rows, none, cell) {
+        rows[at]
+    } else {
+        rows[at + 3]
     }
 }
 

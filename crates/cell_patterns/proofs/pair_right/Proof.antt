@@ -1,6 +1,6 @@
 -- `cell_patterns::pair_right` meets its contract: two triangles, or cells of any kinds. Assumes nothing.
 use mathlib.Core.Path.{ap₂, _∙_}
-use Rattle.cell_patterns.specs.Flat.{cellsRight}
+use Rattle.triangle_patterns.specs.Triangles.{cellsRight}
 use Rattle.cell_patterns.specs.PatternFacts.{cell-few, both-apart, both-other, both-have}
 use borrow.Author.Needs.{needs}
 use Rattle.cell_patterns.proofs.pair_right.Statement.{statement}

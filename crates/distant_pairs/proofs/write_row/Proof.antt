@@ -12,10 +12,10 @@ use Rattle.distant_pairs.proofs.write_row.Statement.{statement}
 use Rattle.distant_pairs.proofs.write_row.Tie as tie
 
 abbrev Inv-loop : tie.InvT-loop
-Inv-loop rows none tests trial work₀ at corner a b c d next₀ k₀ k-end work next k = Each records (λ i. distantPair (share none rows) i trial) tests work₀ work at next k-end k
+Inv-loop rows none tests trial work₀ at cell corner a b c d next₀ k₀ k-end work next k = Each records (λ i. distantPair (share none rows) i trial) tests work₀ work at next k-end k
 
 abbrev μ-loop : tie.MeasureT-loop
-μ-loop rows none tests trial work₀ at corner a b c d next₀ k₀ k-end work next k = k-end - k
+μ-loop rows none tests trial work₀ at cell corner a b c d next₀ k₀ k-end work next k = k-end - k
 
 wide-requires : tie.Need-wide-requires Inv-loop μ-loop
 wide-requires c κs = search needs
@@ -47,17 +47,8 @@ mul-c c = search needs
 shared-slice-read-c : tie.Need-shared-slice-read-c Inv-loop μ-loop
 shared-slice-read-c c = search needs
 
-add-fourth-or : tie.Need-add-fourth-or Inv-loop μ-loop
-add-fourth-or c = search needs
-
-mul-fourth-or : tie.Need-mul-fourth-or Inv-loop μ-loop
-mul-fourth-or c = search needs
-
-shared-slice-read-fourth-or : tie.Need-shared-slice-read-fourth-or Inv-loop μ-loop
-shared-slice-read-fourth-or c = search needs
-
-fourth-or-requires : tie.Need-fourth-or-requires Inv-loop μ-loop
-fourth-or-requires c κs = search needs
+fourth-or-first-requires : tie.Need-fourth-or-first-requires Inv-loop μ-loop
+fourth-or-first-requires c κs = rw (c .before .before .before .wide .ensures) (c .before .before .before .before .before .before .before .pre .1 .1 .0)
 
 loop-holds : tie.Need-loop-holds Inv-loop μ-loop
 loop-holds c = each-start _ _ _ _
@@ -72,10 +63,10 @@ write-pair-requires : tie.Need-write-pair-requires Inv-loop μ-loop
 unfolding distantRow
 write-pair-requires c κs =
     let l = c .before .before .before in
-    let start = c .before .before .before .before .before .before .before .before .before .before .before .before .before in
+    let start = c .before .before .before .before .before .before .before .before .before .before .before .before in
     let pre = start .pre in
     let h = c .before .before .loop-test .taken in
-    let at = corners-read (start .args .rows .now) (c .before .before .before .before .before .before .before .before .before .wide .ensures) (c .before .before .before .before .fourth-or .ensures) in
+    let at = corners-read (start .args .rows .now) (c .before .before .before .before .before .before .before .before .wide .ensures) (c .before .before .before .before .fourth-or-first .ensures) in
     (pre .1 .0 .cell (l .loop .k) (each-in (l .loop .inv) h), rw (pair-same at (pre .0) (pre .1 .1 .0) _) (each-room (l .loop .inv) h (pre .1 .1 .1)))
 
 add-k : tie.Need-add-k Inv-loop μ-loop
@@ -87,9 +78,9 @@ loop-less c = omega arith
 loop-again : tie.Need-loop-again Inv-loop μ-loop
 loop-again c =
     let l = c .before .before .before .before .before .before in
-    let start = c .before .before .before .before .before .before .before .before .before .before .before .before .before .before .before .before in
+    let start = c .before .before .before .before .before .before .before .before .before .before .before .before .before .before .before in
     let pre = start .pre in
-    let at = corners-read (start .args .rows .now) (c .before .before .before .before .before .before .before .before .before .before .before .before .wide .ensures) (c .before .before .before .before .before .before .before .fourth-or .ensures) in
+    let at = corners-read (start .args .rows .now) (c .before .before .before .before .before .before .before .before .before .before .before .wide .ensures) (c .before .before .before .before .before .before .before .fourth-or-first .ensures) in
     each-turn (l .loop .inv) (c .before .before .before .before .before .loop-test .taken) (rw (pair-same at (pre .0) (pre .1 .1 .0) _) at (c .before .before .write-pair .ensures))
 
 same-length : tie.Need-same-length Inv-loop μ-loop
@@ -115,10 +106,7 @@ write-row-spec =
     add-c
     mul-c
     shared-slice-read-c
-    add-fourth-or
-    mul-fourth-or
-    shared-slice-read-fourth-or
-    fourth-or-requires
+    fourth-or-first-requires
     loop-holds
     mul-write-pair
     shared-slice-read-write-pair

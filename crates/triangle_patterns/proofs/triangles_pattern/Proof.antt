@@ -1,8 +1,8 @@
--- `cell_patterns::triangles_pattern` meets its contract: the pattern of the three places. Assumes nothing.
-use Rattle.cell_patterns.specs.PatternFacts.{found-places, found-pattern}
+-- `triangle_patterns::triangles_pattern` meets its contract: the pattern of the three places. Assumes nothing.
+use Rattle.triangle_patterns.specs.TrianglesFacts.{found-places, found-pattern}
 use borrow.Author.Needs.{needs}
-use Rattle.cell_patterns.proofs.triangles_pattern.Statement.{statement}
-use Rattle.cell_patterns.proofs.triangles_pattern.Tie as tie
+use Rattle.triangle_patterns.proofs.triangles_pattern.Statement.{statement}
+use Rattle.triangle_patterns.proofs.triangles_pattern.Tie as tie
 
 mul-at : tie.Need-mul-at
 mul-at c = search needs

@@ -1,7 +1,7 @@
--- `cell_patterns::all_three` meets its contract: each return has the test that led there. Assumes nothing.
+-- `triangle_patterns::all_three` meets its contract: each return has the test that led there. Assumes nothing.
 use Rattle.lists.specs.Bool.{_and_}
-use Rattle.cell_patterns.proofs.all_three.Statement.{statement}
-use Rattle.cell_patterns.proofs.all_three.Tie as tie
+use Rattle.triangle_patterns.proofs.all_three.Statement.{statement}
+use Rattle.triangle_patterns.proofs.all_three.Tie as tie
 
 returns : tie.Need-returns
 unfolding _and_

@@ -1,20 +1,16 @@
--- `cell_patterns::cell_of` meets its contract: a row without its fourth number, or whole. Assumes nothing.
-use Rattle.cell_patterns.specs.PatternFacts.{cut-three, cut-four}
+-- `grid::shape::cell_of` meets its contract: a row without its fourth number, or whole. Assumes nothing.
+use mathlib.Core.Path.{sym, _∙_}
+use borrow.Author.Tests.{eqb-true, eqb-false}
+use Rattle.grid.specs.RowsFacts.{cut-three, cut-four}
 use borrow.Author.Needs.{needs}
-use Rattle.cell_patterns.proofs.cell_of.Statement.{statement}
-use Rattle.cell_patterns.proofs.cell_of.Tie as tie
+use Rattle.grid.proofs.shape.cell_of.Statement.{statement}
+use Rattle.grid.proofs.shape.cell_of.Tie as tie
 
 mul-at : tie.Need-mul-at
 mul-at c = search needs
 
-add-if1 : tie.Need-add-if1
-add-if1 c = search needs
-
-mul-if1 : tie.Need-mul-if1
-mul-if1 c = search needs
-
-shared-slice-read-if1 : tie.Need-shared-slice-read-if1
-shared-slice-read-if1 c = search needs
+is-triangle-requires : tie.Need-is-triangle-requires
+is-triangle-requires c κs = search needs
 
 add-result : tie.Need-add-result
 add-result c = search needs
@@ -47,19 +43,17 @@ part-result-end-2 : tie.Need-part-result-end-2
 part-result-end-2 c = search needs
 
 returns : tie.Need-returns
-returns c = let s = c .before .before .before in cut-three (s .args .none) (s .args .rows .now) (s .args .i) (s .pre) (c .before .if1 .taken)
+returns c = let s = c .before .before .before .before in cut-three (s .args .none) (s .args .rows .now) (s .args .cell) (s .pre) (eqb-true _ _ (sym (c .before .before .is-triangle .ensures) ∙ c .before .if1 .taken))
 
 returns-2 : tie.Need-returns-2
-returns-2 c = let s = c .before .before .before in cut-four (s .args .none) (s .args .rows .now) (s .args .i) (s .pre) (c .before .if1 .left)
+returns-2 c = let s = c .before .before .before .before in cut-four (s .args .none) (s .args .rows .now) (s .args .cell) (s .pre) (eqb-false _ _ (sym (c .before .before .is-triangle .ensures) ∙ c .before .if1 .left))
 
 pub cell-of-spec : {M : Type 1} → statement M
 cell-of-spec =
     tie.close
     (tie.spec
     mul-at
-    add-if1
-    mul-if1
-    shared-slice-read-if1
+    is-triangle-requires
     add-result
     mul-result
     sub-result

@@ -1,11 +1,11 @@
--- `cell_patterns::triangles_right` meets its contract: each return has the tests that led there. Assumes nothing.
+-- `triangle_patterns::triangles_right` meets its contract: each return has the tests that led there. Assumes nothing.
 use mathlib.Core.Path.{sym, _∙_}
 use native.Mathlib.Nat.{add-zero}
 use Rattle.lists.specs.Bool.{_and_}
-use Rattle.cell_patterns.specs.PatternFacts.{first-missing, second-missing, third-missing, none-missing}
+use Rattle.triangle_patterns.specs.TrianglesFacts.{first-missing, second-missing, third-missing, none-missing}
 use borrow.Author.Needs.{needs}
-use Rattle.cell_patterns.proofs.triangles_right.Statement.{statement}
-use Rattle.cell_patterns.proofs.triangles_right.Tie as tie
+use Rattle.triangle_patterns.proofs.triangles_right.Statement.{statement}
+use Rattle.triangle_patterns.proofs.triangles_right.Tie as tie
 
 mul-at : tie.Need-mul-at
 mul-at c = search needs

@@ -1,10 +1,10 @@
--- `cell_patterns::place_of` meets its contract: each return has the tests that led there. Assumes nothing.
+-- `triangle_patterns::place_of` meets its contract: each return has the tests that led there. Assumes nothing.
 use native.Mathlib.Nat.{add-zero}
 use borrow.Author.Tests.{eq-eqb, ne-eqb}
 use Rattle.cell_pairs.specs.MatchesFacts.{firstOf}
 use borrow.Author.Needs.{needs}
-use Rattle.cell_patterns.proofs.place_of.Statement.{statement}
-use Rattle.cell_patterns.proofs.place_of.Tie as tie
+use Rattle.triangle_patterns.proofs.place_of.Statement.{statement}
+use Rattle.triangle_patterns.proofs.place_of.Tie as tie
 
 mul-at : tie.Need-mul-at
 mul-at c = search needs

@@ -1,8 +1,8 @@
--- `cell_patterns::pattern_at` meets its contract: each arm has the bits of its case. Assumes nothing.
-use Rattle.cell_patterns.specs.Written.{arm, last-arm}
+-- `triangle_patterns::pattern_at` meets its contract: each arm has the bits of its case. Assumes nothing.
+use Rattle.triangle_patterns.specs.Written.{arm, last-arm}
 use borrow.Author.Needs.{needs}
-use Rattle.cell_patterns.proofs.pattern_at.Statement.{statement}
-use Rattle.cell_patterns.proofs.pattern_at.Tie as tie
+use Rattle.triangle_patterns.proofs.pattern_at.Statement.{statement}
+use Rattle.triangle_patterns.proofs.pattern_at.Tie as tie
 
 mul-match : tie.Need-mul-match
 mul-match c = search needs
