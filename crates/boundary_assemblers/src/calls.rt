@@ -25,12 +25,13 @@ ghost use mathlib.Core.Bool.{true};
 ghost use Prim.Native.Nat.{_+_, _*_, _≤_, _<_};
 ghost use lib.ListN.{length};
 ghost use Rattle.lists.specs.Bool.{_and_};
+ghost use Rattle.numbers.specs.Ranges.{allBelow};
 ghost use Rattle.grid.specs.Mesh.{mostCells};
 ghost use Rattle.grid.specs.KindsFacts.{kindsTo};
 ghost use Rattle.function.specs.Elements.{cellDim};
 ghost use Rattle.runs.specs.Runs.{begin, beginEntries, rangesRight, countsRight, kindsFit, planRight, recordKnown, look, planOf};
 ghost use Rattle.boundary_assemblers.specs.Forms.{runOf, lookedOf, stateChecked, cellBehind, dofsAt};
-ghost use Rattle.boundary_assemblers.specs.RunFacts.{Matched, Inside, dofsBelow};
+ghost use Rattle.boundary_assemblers.specs.RunFacts.{Matched, Inside};
 
 // How many local DOFs so many triangles and quads have together. Of elements that hold any u32 the sum fits.
 fn dofs_on(triangles: u32, quads: u32, elements: Elements) -> usize
@@ -60,6 +61,14 @@ pub(crate) fn cell_dofs(dofs: &[u32], cell: Cell) -> &[u32]
     let start = cell.start;
     let end = start + cell.dim;
     &dofs[start..end]
+}
+
+// 22: each DOF of a cell is below the size of its side.
+fn dofs_below(dofs: &[u32], cell: Cell, size: u32) -> bool
+    requires { ⌜ Inside (now dofs) cell ⌝ }
+    ensures { λ r. ⌜ r ≡ allBelow (dofsAt (now (dofs .entry)) cell) size ⌝ }
+{
+    all_below(cell_dofs(dofs, cell), size)
 }
 
 impl Run {
@@ -166,17 +175,6 @@ impl Run {
             & (e.trial < n.cells)
     }
 
-    // 22: each DOF of the two cells is below its size.
-    fn dofs_right(self, test_dofs: &[u32], trial_dofs: &[u32], e: Pair) -> bool
-        requires { ⌜ Inside (now «test_dofs») (e .test) × Inside (now «trial_dofs») (e .trial) ⌝ }
-        ensures { λ r. ⌜ r ≡ dofsBelow (runOf self) (now («test_dofs» .entry)) (now («trial_dofs» .entry)) e ⌝ }
-    {
-        let n = self.numbers;
-        let rows = cell_dofs(test_dofs, e.test);
-        let columns = cell_dofs(trial_dofs, e.trial);
-        all_below(rows, n.rows) & all_below(columns, n.columns)
-    }
-
     // 21, 20, 22, which every call checks, then record p and its cells. `sized`: what is lent beside the plan has its length.
     pub(crate) fn state_checked(
         self,
@@ -219,7 +217,10 @@ impl Run {
             test: cell_at(n.test, kinds[wide(i)], i, test_quads),
             trial: cell_at(n.trial, kinds[wide(j)], j, trial_quads),
         };
-        if !self.dofs_right(test_dofs, trial_dofs, e) {
+        if !dofs_below(test_dofs, e.test, n.rows) {
+            return Checked::Refused(22);
+        }
+        if !dofs_below(trial_dofs, e.trial, n.columns) {
             return Checked::Refused(22);
         }
         Checked::Passed(e)

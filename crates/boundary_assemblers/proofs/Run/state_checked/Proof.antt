@@ -3,7 +3,7 @@ use native.Mathlib.Omega.{arith}
 use mathlib.Core.Path.{sym, ap, _∙_}
 use Prim.Native.Nat.{ℕ, _*_}
 use borrow.Author.Tests.{not-true, not-false}
-use Rattle.lists.specs.Bool.{_also_, end, and-left, and-right, turned, passed}
+use Rattle.lists.specs.Bool.{_also_, end, and-left, and-right, and-both, and-no-left, and-no-right, turned, passed}
 use Rattle.cell_pairs.specs.Records.{recordAt}
 use lib.ListN.{getD}
 use Rattle.runs.specs.Runs.{planOf}
@@ -109,32 +109,86 @@ cell-at-requires-2 c κs =
     let k = known (runOf (start .args .self)) _ (passed (c .before .before .before .before .before .before .before .before .record-known .ensures) (c .before .before .before .before .before .before .before .if6 .left)) in
     quads-few m _ (k .trial) (c .before .before .before .before .before .quads-before2 .ensures)
 
-dofs-right-requires : tie.Need-dofs-right-requires
-dofs-right-requires c κs =
+dofs-below-requires : tie.Need-dofs-below-requires
+dofs-below-requires c κs =
     let start = c .before .before .before .before .before .before .before .before .before .before .before .before .before .before .before .before .before .before .before .before .before .before .before .before .before .before in
-    let m = kinds-matched (runOf (start .args .self)) (planOf (start .args .kinds .now) (start .args .test-dofs .now) (start .args .trial-dofs .now) (start .args .work .now)) (passed (c .before .before .before .before .before .before .before .before .before .before .before .before .before .before .before .before .before .before .before .before .before .ranges-right .ensures) (c .before .before .before .before .before .before .before .before .before .before .before .before .before .before .before .before .before .before .before .before .if1 .left)) (passed (c .before .before .before .before .before .before .before .before .before .before .before .before .before .before .before .before .before .plan-right .ensures) (c .before .before .before .before .before .before .before .before .before .before .before .before .before .before .before .before .if3 .left)) in
-    let k = known (runOf (start .args .self)) _ (passed (c .before .before .before .before .before .before .before .before .before .record-known .ensures) (c .before .before .before .before .before .before .before .before .if6 .left)) in
-    rw (c .cell-at2 .ensures ∙ cell-is m _ (k .trial) (start .args .self .numbers .trial) (ap (λ (i : ℕ). getD (start .args .kinds .now) i 0) (c .before .before .wide4 .ensures)) (c .before .before .before .before .before .before .quads-before2 .ensures), c .before .before .before .cell-at .ensures ∙ cell-is m _ (k .test) (start .args .self .numbers .test) (ap (λ (i : ℕ). getD (start .args .kinds .now) i 0) (c .before .before .before .before .before .wide3 .ensures)) (c .before .before .before .before .before .before .before .quads-before .ensures)) (both-inside (runOf (start .args .self)) _ (and-right _ _ (passed (c .before .before .before .before .before .before .before .before .before .before .before .before .before .before .before .before .before .plan-right .ensures) (c .before .before .before .before .before .before .before .before .before .before .before .before .before .before .before .before .if3 .left))) _ (passed (c .before .before .before .before .before .before .before .before .before .record-known .ensures) (c .before .before .before .before .before .before .before .before .if6 .left)))
+    let run = runOf (start .args .self) in
+    let plan = planOf (start .args .kinds .now) (start .args .test-dofs .now) (start .args .trial-dofs .now) (start .args .work .now) in
+    let ranges-pass = passed (c .before .before .before .before .before .before .before .before .before .before .before .before .before .before .before .before .before .before .before .before .before .ranges-right .ensures) (c .before .before .before .before .before .before .before .before .before .before .before .before .before .before .before .before .before .before .before .before .if1 .left) in
+    let plan-passes = passed (c .before .before .before .before .before .before .before .before .before .before .before .before .before .before .before .before .before .plan-right .ensures) (c .before .before .before .before .before .before .before .before .before .before .before .before .before .before .before .before .if3 .left) in
+    let known-passes = passed (c .before .before .before .before .before .before .before .before .before .record-known .ensures) (c .before .before .before .before .before .before .before .before .if6 .left) in
+    let m = kinds-matched run plan ranges-pass plan-passes in
+    let k = known run _ known-passes in
+    let test-is = c .before .before .before .cell-at .ensures ∙ cell-is m _ (k .test) (start .args .self .numbers .test) (ap (λ (i : ℕ). getD (start .args .kinds .now) i 0) (c .before .before .before .before .before .wide3 .ensures)) (c .before .before .before .before .before .before .before .quads-before .ensures) in
+    rw test-is (both-inside run plan (and-right _ _ plan-passes) _ known-passes .0)
 
 returns-7 : tie.Need-returns-7
 returns-7 c =
-    let start = c .before .before .before .before .before .before .before .before .before .before .before .before .before .before .before .before .before .before .before .before .before .before .before .before .before .before .before .before in
-    let m = kinds-matched (runOf (start .args .self)) (planOf (start .args .kinds .now) (start .args .test-dofs .now) (start .args .trial-dofs .now) (start .args .work .now)) (passed (c .before .before .before .before .before .before .before .before .before .before .before .before .before .before .before .before .before .before .before .before .before .before .before .ranges-right .ensures) (c .before .before .before .before .before .before .before .before .before .before .before .before .before .before .before .before .before .before .before .before .before .before .if1 .left)) (passed (c .before .before .before .before .before .before .before .before .before .before .before .before .before .before .before .before .before .before .before .plan-right .ensures) (c .before .before .before .before .before .before .before .before .before .before .before .before .before .before .before .before .before .before .if3 .left)) in
-    let k = known (runOf (start .args .self)) _ (passed (c .before .before .before .before .before .before .before .before .before .before .before .record-known .ensures) (c .before .before .before .before .before .before .before .before .before .before .if6 .left)) in
+    let d = c .before .before in
+    let start = d .before .before .before .before .before .before .before .before .before .before .before .before .before .before .before .before .before .before .before .before .before .before .before .before .before .before in
+    let run = runOf (start .args .self) in
+    let plan = planOf (start .args .kinds .now) (start .args .test-dofs .now) (start .args .trial-dofs .now) (start .args .work .now) in
+    let ranges-pass = passed (d .before .before .before .before .before .before .before .before .before .before .before .before .before .before .before .before .before .before .before .before .before .ranges-right .ensures) (d .before .before .before .before .before .before .before .before .before .before .before .before .before .before .before .before .before .before .before .before .if1 .left) in
+    let plan-passes = passed (d .before .before .before .before .before .before .before .before .before .before .before .before .before .before .before .before .before .plan-right .ensures) (d .before .before .before .before .before .before .before .before .before .before .before .before .before .before .before .before .if3 .left) in
+    let known-passes = passed (d .before .before .before .before .before .before .before .before .before .record-known .ensures) (d .before .before .before .before .before .before .before .before .if6 .left) in
+    let m = kinds-matched run plan ranges-pass plan-passes in
+    let k = known run _ known-passes in
+    let test-is = d .before .before .before .cell-at .ensures ∙ cell-is m _ (k .test) (start .args .self .numbers .test) (ap (λ (i : ℕ). getD (start .args .kinds .now) i 0) (d .before .before .before .before .before .wide3 .ensures)) (d .before .before .before .before .before .before .before .quads-before .ensures) in
+    let trial-is = d .cell-at2 .ensures ∙ cell-is m _ (k .trial) (start .args .self .numbers .trial) (ap (λ (i : ℕ). getD (start .args .kinds .now) i 0) (d .before .before .wide4 .ensures)) (d .before .before .before .before .before .before .quads-before2 .ensures) in
     dofs-fail _ _ _
-    (passed (c .before .before .before .before .before .before .before .before .before .before .before .before .before .before .before .before .before .before .before .before .before .before .before .ranges-right .ensures) (c .before .before .before .before .before .before .before .before .before .before .before .before .before .before .before .before .before .before .before .before .before .before .if1 .left) also passed (c .before .before .before .before .before .before .before .before .before .before .before .before .before .before .before .before .before .before .before .before .before .counts-right .ensures) (c .before .before .before .before .before .before .before .before .before .before .before .before .before .before .before .before .before .before .before .before .if2 .left) also and-left _ _ (passed (c .before .before .before .before .before .before .before .before .before .before .before .before .before .before .before .before .before .before .before .plan-right .ensures) (c .before .before .before .before .before .before .before .before .before .before .before .before .before .before .before .before .before .before .if3 .left)) also and-right _ _ (passed (c .before .before .before .before .before .before .before .before .before .before .before .before .before .before .before .before .before .before .before .plan-right .ensures) (c .before .before .before .before .before .before .before .before .before .before .before .before .before .before .before .before .before .before .if3 .left)) also not-false _ (c .before .before .before .before .before .before .before .before .before .before .before .before .before .before .before .before .before .if4 .left) also end)
-    (λ e. c .before .before .before .before .before .before .before .before .before .before .before .before .before .if5 .left (c .before .before .before .before .before .before .before .before .before .before .before .before .before .before .wide2 .ensures ∙ e ∙ sym (ap (λ (n : ℕ). n * n) (c .before .before .before .before .before .before .before .before .before .before .before .before .before .before .before .wide .ensures))))
-    _ (pair-is (runOf (start .args .self)) (planOf (start .args .kinds .now) (start .args .test-dofs .now) (start .args .trial-dofs .now) (start .args .work .now)) (c .before .before .before .before .before .before .before .before .before .before .before .before .record-at .ensures ∙ ap (recordAt _) (c .before .before .before .before .before .before .before .before .before .before .before .before .before .before .wide2 .ensures)) (c .before .before .before .before .before .cell-at .ensures ∙ cell-is m _ (k .test) (start .args .self .numbers .test) (ap (λ (i : ℕ). getD (start .args .kinds .now) i 0) (c .before .before .before .before .before .before .before .wide3 .ensures)) (c .before .before .before .before .before .before .before .before .before .quads-before .ensures)) (c .before .before .cell-at2 .ensures ∙ cell-is m _ (k .trial) (start .args .self .numbers .trial) (ap (λ (i : ℕ). getD (start .args .kinds .now) i 0) (c .before .before .before .before .wide4 .ensures)) (c .before .before .before .before .before .before .before .before .quads-before2 .ensures))) (turned (c .before .dofs-right .ensures) (c .if7 .taken))
+    (ranges-pass also passed (d .before .before .before .before .before .before .before .before .before .before .before .before .before .before .before .before .before .before .before .counts-right .ensures) (d .before .before .before .before .before .before .before .before .before .before .before .before .before .before .before .before .before .before .if2 .left) also and-left _ _ plan-passes also and-right _ _ plan-passes also not-false _ (d .before .before .before .before .before .before .before .before .before .before .before .before .before .before .before .if4 .left) also end)
+    (λ e. d .before .before .before .before .before .before .before .before .before .before .before .if5 .left (d .before .before .before .before .before .before .before .before .before .before .before .before .wide2 .ensures ∙ e ∙ sym (ap (λ (n : ℕ). n * n) (d .before .before .before .before .before .before .before .before .before .before .before .before .before .wide .ensures))))
+    _ (pair-is run plan (d .before .before .before .before .before .before .before .before .before .before .record-at .ensures ∙ ap (recordAt _) (d .before .before .before .before .before .before .before .before .before .before .before .before .wide2 .ensures)) test-is trial-is) (and-no-left _ _ (turned (c .before .dofs-below .ensures) (c .if7 .taken)))
+
+dofs-below-requires-2 : tie.Need-dofs-below-requires-2
+dofs-below-requires-2 c κs =
+    let d = c .before .before in
+    let start = d .before .before .before .before .before .before .before .before .before .before .before .before .before .before .before .before .before .before .before .before .before .before .before .before .before .before in
+    let run = runOf (start .args .self) in
+    let plan = planOf (start .args .kinds .now) (start .args .test-dofs .now) (start .args .trial-dofs .now) (start .args .work .now) in
+    let ranges-pass = passed (d .before .before .before .before .before .before .before .before .before .before .before .before .before .before .before .before .before .before .before .before .before .ranges-right .ensures) (d .before .before .before .before .before .before .before .before .before .before .before .before .before .before .before .before .before .before .before .before .if1 .left) in
+    let plan-passes = passed (d .before .before .before .before .before .before .before .before .before .before .before .before .before .before .before .before .before .plan-right .ensures) (d .before .before .before .before .before .before .before .before .before .before .before .before .before .before .before .before .if3 .left) in
+    let known-passes = passed (d .before .before .before .before .before .before .before .before .before .record-known .ensures) (d .before .before .before .before .before .before .before .before .if6 .left) in
+    let m = kinds-matched run plan ranges-pass plan-passes in
+    let k = known run _ known-passes in
+    let trial-is = d .cell-at2 .ensures ∙ cell-is m _ (k .trial) (start .args .self .numbers .trial) (ap (λ (i : ℕ). getD (start .args .kinds .now) i 0) (d .before .before .wide4 .ensures)) (d .before .before .before .before .before .before .quads-before2 .ensures) in
+    rw trial-is (both-inside run plan (and-right _ _ plan-passes) _ known-passes .1)
 
 returns-8 : tie.Need-returns-8
 returns-8 c =
-    let start = c .before .before .before .before .before .before .before .before .before .before .before .before .before .before .before .before .before .before .before .before .before .before .before .before .before .before .before .before in
-    let m = kinds-matched (runOf (start .args .self)) (planOf (start .args .kinds .now) (start .args .test-dofs .now) (start .args .trial-dofs .now) (start .args .work .now)) (passed (c .before .before .before .before .before .before .before .before .before .before .before .before .before .before .before .before .before .before .before .before .before .before .before .ranges-right .ensures) (c .before .before .before .before .before .before .before .before .before .before .before .before .before .before .before .before .before .before .before .before .before .before .if1 .left)) (passed (c .before .before .before .before .before .before .before .before .before .before .before .before .before .before .before .before .before .before .before .plan-right .ensures) (c .before .before .before .before .before .before .before .before .before .before .before .before .before .before .before .before .before .before .if3 .left)) in
-    let k = known (runOf (start .args .self)) _ (passed (c .before .before .before .before .before .before .before .before .before .before .before .record-known .ensures) (c .before .before .before .before .before .before .before .before .before .before .if6 .left)) in
+    let d = c .before .before .before .before in
+    let start = d .before .before .before .before .before .before .before .before .before .before .before .before .before .before .before .before .before .before .before .before .before .before .before .before .before .before in
+    let run = runOf (start .args .self) in
+    let plan = planOf (start .args .kinds .now) (start .args .test-dofs .now) (start .args .trial-dofs .now) (start .args .work .now) in
+    let ranges-pass = passed (d .before .before .before .before .before .before .before .before .before .before .before .before .before .before .before .before .before .before .before .before .before .ranges-right .ensures) (d .before .before .before .before .before .before .before .before .before .before .before .before .before .before .before .before .before .before .before .before .if1 .left) in
+    let plan-passes = passed (d .before .before .before .before .before .before .before .before .before .before .before .before .before .before .before .before .before .plan-right .ensures) (d .before .before .before .before .before .before .before .before .before .before .before .before .before .before .before .before .if3 .left) in
+    let known-passes = passed (d .before .before .before .before .before .before .before .before .before .record-known .ensures) (d .before .before .before .before .before .before .before .before .if6 .left) in
+    let m = kinds-matched run plan ranges-pass plan-passes in
+    let k = known run _ known-passes in
+    let test-is = d .before .before .before .cell-at .ensures ∙ cell-is m _ (k .test) (start .args .self .numbers .test) (ap (λ (i : ℕ). getD (start .args .kinds .now) i 0) (d .before .before .before .before .before .wide3 .ensures)) (d .before .before .before .before .before .before .before .quads-before .ensures) in
+    let trial-is = d .cell-at2 .ensures ∙ cell-is m _ (k .trial) (start .args .self .numbers .trial) (ap (λ (i : ℕ). getD (start .args .kinds .now) i 0) (d .before .before .wide4 .ensures)) (d .before .before .before .before .before .before .quads-before2 .ensures) in
+    dofs-fail _ _ _
+    (ranges-pass also passed (d .before .before .before .before .before .before .before .before .before .before .before .before .before .before .before .before .before .before .before .counts-right .ensures) (d .before .before .before .before .before .before .before .before .before .before .before .before .before .before .before .before .before .before .if2 .left) also and-left _ _ plan-passes also and-right _ _ plan-passes also not-false _ (d .before .before .before .before .before .before .before .before .before .before .before .before .before .before .before .if4 .left) also end)
+    (λ e. d .before .before .before .before .before .before .before .before .before .before .before .if5 .left (d .before .before .before .before .before .before .before .before .before .before .before .before .wide2 .ensures ∙ e ∙ sym (ap (λ (n : ℕ). n * n) (d .before .before .before .before .before .before .before .before .before .before .before .before .before .wide .ensures))))
+    _ (pair-is run plan (d .before .before .before .before .before .before .before .before .before .before .record-at .ensures ∙ ap (recordAt _) (d .before .before .before .before .before .before .before .before .before .before .before .before .wide2 .ensures)) test-is trial-is) (and-no-right _ _ (turned (c .before .dofs-below2 .ensures) (c .if8 .taken)))
+
+returns-9 : tie.Need-returns-9
+returns-9 c =
+    let d = c .before .before .before .before in
+    let start = d .before .before .before .before .before .before .before .before .before .before .before .before .before .before .before .before .before .before .before .before .before .before .before .before .before .before in
+    let run = runOf (start .args .self) in
+    let plan = planOf (start .args .kinds .now) (start .args .test-dofs .now) (start .args .trial-dofs .now) (start .args .work .now) in
+    let ranges-pass = passed (d .before .before .before .before .before .before .before .before .before .before .before .before .before .before .before .before .before .before .before .before .before .ranges-right .ensures) (d .before .before .before .before .before .before .before .before .before .before .before .before .before .before .before .before .before .before .before .before .if1 .left) in
+    let plan-passes = passed (d .before .before .before .before .before .before .before .before .before .before .before .before .before .before .before .before .before .plan-right .ensures) (d .before .before .before .before .before .before .before .before .before .before .before .before .before .before .before .before .if3 .left) in
+    let known-passes = passed (d .before .before .before .before .before .before .before .before .before .record-known .ensures) (d .before .before .before .before .before .before .before .before .if6 .left) in
+    let m = kinds-matched run plan ranges-pass plan-passes in
+    let k = known run _ known-passes in
+    let test-is = d .before .before .before .cell-at .ensures ∙ cell-is m _ (k .test) (start .args .self .numbers .test) (ap (λ (i : ℕ). getD (start .args .kinds .now) i 0) (d .before .before .before .before .before .wide3 .ensures)) (d .before .before .before .before .before .before .before .quads-before .ensures) in
+    let trial-is = d .cell-at2 .ensures ∙ cell-is m _ (k .trial) (start .args .self .numbers .trial) (ap (λ (i : ℕ). getD (start .args .kinds .now) i 0) (d .before .before .wide4 .ensures)) (d .before .before .before .before .before .before .quads-before2 .ensures) in
     all-pass _ _ _
-    (passed (c .before .before .before .before .before .before .before .before .before .before .before .before .before .before .before .before .before .before .before .before .before .before .before .ranges-right .ensures) (c .before .before .before .before .before .before .before .before .before .before .before .before .before .before .before .before .before .before .before .before .before .before .if1 .left) also passed (c .before .before .before .before .before .before .before .before .before .before .before .before .before .before .before .before .before .before .before .before .before .counts-right .ensures) (c .before .before .before .before .before .before .before .before .before .before .before .before .before .before .before .before .before .before .before .before .if2 .left) also and-left _ _ (passed (c .before .before .before .before .before .before .before .before .before .before .before .before .before .before .before .before .before .before .before .plan-right .ensures) (c .before .before .before .before .before .before .before .before .before .before .before .before .before .before .before .before .before .before .if3 .left)) also and-right _ _ (passed (c .before .before .before .before .before .before .before .before .before .before .before .before .before .before .before .before .before .before .before .plan-right .ensures) (c .before .before .before .before .before .before .before .before .before .before .before .before .before .before .before .before .before .before .if3 .left)) also not-false _ (c .before .before .before .before .before .before .before .before .before .before .before .before .before .before .before .before .before .if4 .left) also end)
-    (λ e. c .before .before .before .before .before .before .before .before .before .before .before .before .before .if5 .left (c .before .before .before .before .before .before .before .before .before .before .before .before .before .before .wide2 .ensures ∙ e ∙ sym (ap (λ (n : ℕ). n * n) (c .before .before .before .before .before .before .before .before .before .before .before .before .before .before .before .wide .ensures))))
-    _ (pair-is (runOf (start .args .self)) (planOf (start .args .kinds .now) (start .args .test-dofs .now) (start .args .trial-dofs .now) (start .args .work .now)) (c .before .before .before .before .before .before .before .before .before .before .before .before .record-at .ensures ∙ ap (recordAt _) (c .before .before .before .before .before .before .before .before .before .before .before .before .before .before .wide2 .ensures)) (c .before .before .before .before .before .cell-at .ensures ∙ cell-is m _ (k .test) (start .args .self .numbers .test) (ap (λ (i : ℕ). getD (start .args .kinds .now) i 0) (c .before .before .before .before .before .before .before .wide3 .ensures)) (c .before .before .before .before .before .before .before .before .before .quads-before .ensures)) (c .before .before .cell-at2 .ensures ∙ cell-is m _ (k .trial) (start .args .self .numbers .trial) (ap (λ (i : ℕ). getD (start .args .kinds .now) i 0) (c .before .before .before .before .wide4 .ensures)) (c .before .before .before .before .before .before .before .before .quads-before2 .ensures))) (passed (c .before .before .before .before .before .before .before .before .before .before .before .record-known .ensures) (c .before .before .before .before .before .before .before .before .before .before .if6 .left)) (passed (c .before .dofs-right .ensures) (c .if7 .left))
+    (ranges-pass also passed (d .before .before .before .before .before .before .before .before .before .before .before .before .before .before .before .before .before .before .before .counts-right .ensures) (d .before .before .before .before .before .before .before .before .before .before .before .before .before .before .before .before .before .before .if2 .left) also and-left _ _ plan-passes also and-right _ _ plan-passes also not-false _ (d .before .before .before .before .before .before .before .before .before .before .before .before .before .before .before .if4 .left) also end)
+    (λ e. d .before .before .before .before .before .before .before .before .before .before .before .if5 .left (d .before .before .before .before .before .before .before .before .before .before .before .before .wide2 .ensures ∙ e ∙ sym (ap (λ (n : ℕ). n * n) (d .before .before .before .before .before .before .before .before .before .before .before .before .before .wide .ensures))))
+    _ (pair-is run plan (d .before .before .before .before .before .before .before .before .before .before .record-at .ensures ∙ ap (recordAt _) (d .before .before .before .before .before .before .before .before .before .before .before .before .wide2 .ensures)) test-is trial-is) known-passes (and-both _ _ (passed (c .before .before .before .dofs-below .ensures) (c .before .before .if7 .left)) (passed (c .before .dofs-below2 .ensures) (c .if8 .left)))
 
 pub state-checked-spec : {M : Type 1} → statement M
 state-checked-spec =
@@ -162,6 +216,8 @@ state-checked-spec =
     wide-requires-4
     shared-slice-read-cell-at-2
     cell-at-requires-2
-    dofs-right-requires
+    dofs-below-requires
     returns-7
-    returns-8)
+    dofs-below-requires-2
+    returns-8
+    returns-9)
