@@ -339,7 +339,7 @@ impl fmt::Display for Refusal {
 impl std::error::Error for Refusal {}
 
 /// What a call with that refusal answers. That it is 0 or one of the numbers above is proved for each call: `plan-among` and the like in
-/// `crates/seivalto/specs/Numbers.antt`.
+/// `crates/c_forms/specs/Numbers.antt`.
 fn answered<T>(refusal: u32, answer: T) -> Result<T, Refusal> {
     if refusal == 0 {
         return Ok(answer);
@@ -574,7 +574,7 @@ pub fn sparse_rows(
 }
 
 impl Run {
-    /// The run at the position that a call hands back. That nothing else of it changes is proved for each call: `moved` in `crates/seivalto/specs/Forms.antt`.
+    /// The run at the position that a call hands back. That nothing else of it changes is proved for each call: `moved` in `crates/c_forms/specs/Forms.antt`.
     fn at(self, position: u32) -> Run {
         Run { position, ..self }
     }

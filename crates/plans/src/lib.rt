@@ -3,6 +3,7 @@ use function::Elements;
 use integrands::Integrand;
 
 // The touching pairs per two kinds: the kind of the test cell, then that of the trial cell.
+#[repr(C)]
 pub struct KindPairs {
     pub triangle_triangle: u32,
     pub triangle_quad: u32,

@@ -16,13 +16,13 @@ use Rattle.runs.specs.Listed.{planIn}
 use Rattle.runs.specs.ThirdProperty.{ThirdProperty, third-property}
 use Rattle.runs.specs.EntriesProperty.{EntriesProperty, entries-property}
 use Rattle.sparse_lists.specs.SparseProperty.{SparseProperty, sparse-of}
-use Rattle.seivalto.specs.declared.CElements.{CElements}
-use Rattle.seivalto.specs.declared.CIntegrand.{CIntegrand}
-use Rattle.seivalto.specs.declared.CPlanned.{CPlanned}
-use Rattle.seivalto.specs.declared.CRun.{CRun}
-use Rattle.seivalto.specs.Forms.{elementsOf, integrandOf, numbersOf, runOf, cPlanned, cRun}
-use Rattle.seivalto.specs.Calls.{CProgress, cCall, cCallAll}
-use Rattle.seivalto.specs.Stands.{plan-stands, begin-stands, begin-entries-stands, look-stands, add-stands}
+use Rattle.function.specs.declared.Elements.{Elements}
+use Rattle.c_forms.specs.declared.CIntegrand.{CIntegrand}
+use Rattle.c_forms.specs.declared.CPlanned.{CPlanned}
+use Rattle.c_forms.specs.declared.CRun.{CRun}
+use Rattle.c_forms.specs.Forms.{integrandOf, numbersOf, runOf, cPlanned, cRun}
+use Rattle.c_forms.specs.Calls.{CProgress, cCall, cCallAll}
+use Rattle.c_forms.specs.Stands.{plan-stands, begin-stands, begin-entries-stands, look-stands, add-stands}
 
 -- what the C side stands for
 abbrev pub progressOf : CProgress → Progress
@@ -59,10 +59,10 @@ calls-stand l calls c M e =
 
 -- ---- from planning's answer in C
 
-module _ (m : Mesh) (test trial : CElements) (batch : ℕ) (f : CIntegrand) (l : Lists) where
+module _ (m : Mesh) (test trial : Elements) (batch : ℕ) (f : CIntegrand) (l : Lists) where
   -- planning's arguments, its answer in C, and the plan that it leaves
   abbrev x : Planning
-  x = planningOf m (elementsOf test) (elementsOf trial) batch (integrandOf f)
+  x = planningOf m test trial batch (integrandOf f)
 
   abbrev planned : CPlanned
   planned = cPlanned test trial f (plan x l)

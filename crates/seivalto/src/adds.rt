@@ -1,12 +1,12 @@
 // The adds, and the entries call.
-use crate::CAdded;
-use crate::CRun;
-use crate::forms::c_added;
-use crate::forms::run_of;
+use c_forms::CAdded;
+use c_forms::CRun;
+use c_forms::c_added;
+use c_forms::run_of;
 ghost use mathlib.Core.Path.{_≡_};
 ghost use Rattle.lent_numbers.specs.Lent.{touching, distant};
 ghost use Rattle.runs.specs.Runs.{planOf, entryLists, addTouching, touchingMatrix, addDistant, distantMatrix, addEntries, entriesWritten};
-ghost use Rattle.seivalto.specs.Forms.{runOf, cAdded};
+ghost use Rattle.c_forms.specs.Forms.{runOf, cAdded};
 
 // Adds the local matrix of a distant pair.
 #[no_mangle]

@@ -1,11 +1,11 @@
 // The entries of a run as sparse rows.
-use crate::CGathered;
-use crate::forms::c_gathered;
+use c_forms::CGathered;
+use c_forms::c_gathered;
 use sparse_rows::sparse_rows;
 ghost use mathlib.Core.Path.{_≡_};
 ghost use Rattle.runs.specs.Runs.{entryLists};
 ghost use Rattle.sparse_lists.specs.Sparse.{sparseLists, sparseRows, sparseWritten};
-ghost use Rattle.seivalto.specs.Forms.{cGathered};
+ghost use Rattle.c_forms.specs.Forms.{cGathered};
 
 // Writes row starts, columns and values of the entries, those of one row and column added up.
 #[no_mangle]

@@ -3,12 +3,6 @@ use borrow.Author.Needs.{needs}
 use Rattle.seivalto.proofs.seivalto_plan.Statement.{statement}
 use Rattle.seivalto.proofs.seivalto_plan.Tie as tie
 
-elements-of-requires : tie.Need-elements-of-requires
-elements-of-requires c κs = search needs
-
-elements-of-requires-2 : tie.Need-elements-of-requires-2
-elements-of-requires-2 c κs = search needs
-
 integrand-of-requires : tie.Need-integrand-of-requires
 integrand-of-requires c κs = search needs
 
@@ -44,15 +38,13 @@ returns c =
     let planned = c .before .before .before .before .before .before .before .before .before .before .before .before .before .before .before in
     let answer = planned .plan .ensures in
     let formed = planned .before .before .before .before .before .before .before .before in
-    rw (← formed .before .before .elements-of .ensures, ← formed .before .elements-of2 .ensures, ← formed .integrand-of .ensures, ← answer .0)
+    rw (← formed .integrand-of .ensures, ← answer .0)
     (c .c-planned .ensures, answer .1)
 
 pub seivalto-plan-spec : {M : Type 1} → statement M
 seivalto-plan-spec =
     tie.close
     (tie.spec
-    elements-of-requires
-    elements-of-requires-2
     integrand-of-requires
     plan-requires
     c-planned-requires

@@ -1,9 +1,8 @@
--- What each C form stands for, and the C form of each answer. An enum does not pass to C: its case is a number, and so is a bool.
--- Assumes nothing.
+-- What each C form stands for, and the C form of each answer. An enum does not pass to C: its case is a number, and so is a bool. Elements and touching pairs per
+-- two kinds pass as they are. Assumes nothing.
 use Prim.Native.Nat.{ℕ}
 use mathlib.Core.Bool.{cond, not}
 use lib.Dec.{eqb}
-use Rattle.function.specs.declared.Element.{Element}
 use Rattle.function.specs.declared.Elements.{Elements}
 use Rattle.integrands.specs.declared.Term.{Term}
 use Rattle.integrands.specs.declared.Term.the-variants.{Bare, Scaled}
@@ -16,26 +15,17 @@ use Rattle.plans.specs.declared.Planned.the-variants.{Ready as ready, Refused a
 use Rattle.runs.specs.Runs.{Run, Reply, Answer, found, accepted, refused}
 use Rattle.sparse_lists.specs.declared.Gathered.{Gathered}
 use Rattle.sparse_lists.specs.declared.Gathered.the-variants.{Kept as kept, Refused as not-gathered}
-use Rattle.seivalto.specs.declared.CElement.{CElement}
-use Rattle.seivalto.specs.declared.CElements.{CElements}
-use Rattle.seivalto.specs.declared.CTerm.{CTerm}
-use Rattle.seivalto.specs.declared.CIntegrand.{CIntegrand}
-use Rattle.seivalto.specs.declared.CKindPairs.{CKindPairs}
-use Rattle.seivalto.specs.declared.CNumbers.{CNumbers}
-use Rattle.seivalto.specs.declared.CPlanned.{CPlanned}
-use Rattle.seivalto.specs.declared.CRun.{CRun}
-use Rattle.seivalto.specs.declared.CRecord.{CRecord}
-use Rattle.seivalto.specs.declared.CLooked.{CLooked}
-use Rattle.seivalto.specs.declared.CAdded.{CAdded}
-use Rattle.seivalto.specs.declared.CGathered.{CGathered}
+use Rattle.c_forms.specs.declared.CTerm.{CTerm}
+use Rattle.c_forms.specs.declared.CIntegrand.{CIntegrand}
+use Rattle.c_forms.specs.declared.CNumbers.{CNumbers}
+use Rattle.c_forms.specs.declared.CPlanned.{CPlanned}
+use Rattle.c_forms.specs.declared.CRun.{CRun}
+use Rattle.c_forms.specs.declared.CRecord.{CRecord}
+use Rattle.c_forms.specs.declared.CLooked.{CLooked}
+use Rattle.c_forms.specs.declared.CAdded.{CAdded}
+use Rattle.c_forms.specs.declared.CGathered.{CGathered}
 
 -- ---- what a C form stands for
-
-abbrev pub elementOf : CElement → Element
-elementOf e = record { a = e .a; b = e .b; c = e .c }
-
-abbrev pub elementsOf : CElements → Elements
-elementsOf es = record { triangle = elementOf (es .triangle); quad = elementOf (es .quad) }
 
 -- bare where `scaled` is 0, whatever the factor; for any other `scaled` the term carries the factor
 abbrev pub termOf : CTerm → Term
@@ -43,15 +33,6 @@ termOf t = cond (eqb (t .scaled) 0) (Bare (t .kind)) (Scaled (t .factor) (t .kin
 
 abbrev pub integrandOf : CIntegrand → Integrand
 integrandOf f = record { terms = f .terms; first = termOf (f .first); second = termOf (f .second) }
-
-abbrev pub pairsOf : CKindPairs → KindPairs
-pairsOf k =
-    record {
-      «triangle_triangle» = k .«triangle_triangle»;
-      «triangle_quad» = k .«triangle_quad»;
-      «quad_triangle» = k .«quad_triangle»;
-      «quad_quad» = k .«quad_quad»;
-    }
 
 abbrev pub numbersOf : CNumbers → PlanNumbers
 numbersOf n =
@@ -63,11 +44,11 @@ numbersOf n =
       quads = n .quads;
       touching = n .touching;
       distant = n .distant;
-      pairs = pairsOf (n .pairs);
+      pairs = n .pairs;
       rows = n .rows;
       columns = n .columns;
-      test = elementsOf (n .test);
-      trial = elementsOf (n .trial);
+      test = n .test;
+      trial = n .trial;
       integrand = integrandOf (n .integrand);
     }
 
@@ -77,17 +58,8 @@ runOf c = record { numbers = numbersOf (c .numbers); entries = not (eqb (c .entr
 
 -- ---- the C form of each answer: `refusal` is 0 where the call is accepted, else the paper's number
 
-abbrev pub cPairs : KindPairs → CKindPairs
-cPairs k =
-    record {
-      «triangle_triangle» = k .«triangle_triangle»;
-      «triangle_quad» = k .«triangle_quad»;
-      «quad_triangle» = k .«quad_triangle»;
-      «quad_quad» = k .«quad_quad»;
-    }
-
 -- planning's numbers, with the elements, of both kinds whether present or not, and the integrand as the host gave them
-abbrev pub cNumbers : CElements → CElements → CIntegrand → PlanNumbers → CNumbers
+abbrev pub cNumbers : Elements → Elements → CIntegrand → PlanNumbers → CNumbers
 cNumbers test trial f n =
     record {
       cells = n .cells;
@@ -97,7 +69,7 @@ cNumbers test trial f n =
       quads = n .quads;
       touching = n .touching;
       distant = n .distant;
-      pairs = cPairs (n .pairs);
+      pairs = n .pairs;
       rows = n .rows;
       columns = n .columns;
       test = test;
@@ -105,11 +77,11 @@ cNumbers test trial f n =
       integrand = f;
     }
 
-abbrev pub noPairs : CKindPairs
+abbrev pub noPairs : KindPairs
 noPairs = record { «triangle_triangle» = 0; «triangle_quad» = 0; «quad_triangle» = 0; «quad_quad» = 0 }
 
 -- in their place where planning refuses: no cell
-abbrev pub noNumbers : CElements → CElements → CIntegrand → CNumbers
+abbrev pub noNumbers : Elements → Elements → CIntegrand → CNumbers
 noNumbers test trial f =
     record {
       cells = 0;
@@ -127,7 +99,7 @@ noNumbers test trial f =
       integrand = f;
     }
 
-abbrev pub cPlanned : CElements → CElements → CIntegrand → Planned → CPlanned
+abbrev pub cPlanned : Elements → Elements → CIntegrand → Planned → CPlanned
 cPlanned test trial f (ready n) = record { refusal = 0; numbers = cNumbers test trial f n }
 cPlanned test trial f (not-planned v) = record { refusal = v; numbers = noNumbers test trial f }
 

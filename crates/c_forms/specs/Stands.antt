@@ -10,34 +10,34 @@ use Rattle.lists.specs.Bool.{_and_, every-fails}
 use Rattle.lists.specs.Refusals.{Check, refusal, refusal-fails}
 use Rattle.grid.specs.Mesh.{Mesh}
 use Rattle.cell_pairs.specs.declared.WorkRecord.{WorkRecord}
+use Rattle.function.specs.declared.Elements.{Elements}
 use Rattle.plans.specs.declared.Planned.{Planned}
 use Rattle.plans.specs.declared.Planned.the-variants.{Ready as ready, Refused as not-planned}
 use Rattle.plans.specs.Planning.{planningOf, planNumbers}
 use Rattle.runs.specs.Runs.{Run, Plan, EntryLists, Reply, found, accepted, reply, begin, beginEntries, rangesRight, countsRight, kindsFit, planRight, stateChecks, lookRefusal, advance, distantRefusal, touchingRefusal, entriesRefusal}
 use Rattle.sparse_lists.specs.Sparse.{SparseLists, valuesAt, keptOf, sparseRefusal, gathered, sparseRows}
-use Rattle.seivalto.specs.declared.CElements.{CElements}
-use Rattle.seivalto.specs.declared.CIntegrand.{CIntegrand}
-use Rattle.seivalto.specs.declared.CNumbers.{CNumbers}
-use Rattle.seivalto.specs.declared.CRun.{CRun}
-use Rattle.seivalto.specs.declared.CLooked.{CLooked}
-use Rattle.seivalto.specs.declared.CAdded.{CAdded}
-use Rattle.seivalto.specs.Forms.{elementsOf, integrandOf, numbersOf, runOf, cNumbers, cPlanned, cRun, cLooked, cAdded, cGathered}
-use Rattle.seivalto.specs.Calls.{lookedBy, addedBy}
+use Rattle.c_forms.specs.declared.CIntegrand.{CIntegrand}
+use Rattle.c_forms.specs.declared.CNumbers.{CNumbers}
+use Rattle.c_forms.specs.declared.CRun.{CRun}
+use Rattle.c_forms.specs.declared.CLooked.{CLooked}
+use Rattle.c_forms.specs.declared.CAdded.{CAdded}
+use Rattle.c_forms.specs.Forms.{integrandOf, numbersOf, runOf, cNumbers, cPlanned, cRun, cLooked, cAdded, cGathered}
+use Rattle.c_forms.specs.Calls.{lookedBy, addedBy}
 
 -- ---- planning and beginning
 
-pub plan-stands : (m : Mesh) (test trial : CElements) (B : ℕ) (f : CIntegrand)
-    → (let x = planningOf m (elementsOf test) (elementsOf trial) B (integrandOf f) in numbersOf (cNumbers test trial f (planNumbers x)) ≡ planNumbers x)
+pub plan-stands : (m : Mesh) (test trial : Elements) (B : ℕ) (f : CIntegrand)
+    → (let x = planningOf m test trial B (integrandOf f) in numbersOf (cNumbers test trial f (planNumbers x)) ≡ planNumbers x)
 unfolding planNumbers
 plan-stands m test trial B f = refl
 
 -- whatever planning answers, elements and integrand go back as the host gave them, those of a kind that is not present too
-pub record HandedBack (test trial : CElements) (f : CIntegrand) (n : CNumbers) : Type 0 where
+pub record HandedBack (test trial : Elements) (f : CIntegrand) (n : CNumbers) : Type 0 where
   pub test-kept : n .test ≡ test
   pub trial-kept : n .trial ≡ trial
   pub integrand-kept : n .integrand ≡ f
 
-pub plan-hands-back : (test trial : CElements) (f : CIntegrand) (p : Planned) → HandedBack test trial f (cPlanned test trial f p .numbers)
+pub plan-hands-back : (test trial : Elements) (f : CIntegrand) (p : Planned) → HandedBack test trial f (cPlanned test trial f p .numbers)
 plan-hands-back test trial f (ready n) = record { test-kept = refl; trial-kept = refl; integrand-kept = refl }
 plan-hands-back test trial f (not-planned v) = record { test-kept = refl; trial-kept = refl; integrand-kept = refl }
 

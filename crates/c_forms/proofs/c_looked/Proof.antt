@@ -1,7 +1,7 @@
--- `seivalto::forms::c_looked` meets its contract: in each arm the answer is that constructor, at which `cLooked` computes. Assumes nothing.
+-- `c_forms::c_looked` meets its contract: in each arm the answer is that constructor, at which `cLooked` computes. Assumes nothing.
 use borrow.Author.Needs.{needs}
-use Rattle.seivalto.proofs.forms.c_looked.Statement.{statement}
-use Rattle.seivalto.proofs.forms.c_looked.Tie as tie
+use Rattle.c_forms.proofs.c_looked.Statement.{statement}
+use Rattle.c_forms.proofs.c_looked.Tie as tie
 
 enum-known-answer : tie.Need-enum-known-answer
 enum-known-answer c = search needs

@@ -1,7 +1,7 @@
--- `seivalto::forms::integrand_of` meets its contract. Assumes nothing.
+-- `c_forms::integrand_of` meets its contract. Assumes nothing.
 use borrow.Author.Needs.{needs}
-use Rattle.seivalto.proofs.forms.integrand_of.Statement.{statement}
-use Rattle.seivalto.proofs.forms.integrand_of.Tie as tie
+use Rattle.c_forms.proofs.integrand_of.Statement.{statement}
+use Rattle.c_forms.proofs.integrand_of.Tie as tie
 
 term-of-requires : tie.Need-term-of-requires
 term-of-requires c κs = search needs

@@ -1,7 +1,7 @@
--- `seivalto::forms::c_added` meets its contract: in each arm the answer is that constructor, at which `cAdded` computes. Assumes nothing.
+-- `c_forms::c_added` meets its contract: in each arm the answer is that constructor, at which `cAdded` computes. Assumes nothing.
 use borrow.Author.Needs.{needs}
-use Rattle.seivalto.proofs.forms.c_added.Statement.{statement}
-use Rattle.seivalto.proofs.forms.c_added.Tie as tie
+use Rattle.c_forms.proofs.c_added.Statement.{statement}
+use Rattle.c_forms.proofs.c_added.Tie as tie
 
 enum-known-answer : tie.Need-enum-known-answer
 enum-known-answer c = search needs

@@ -1,7 +1,7 @@
--- `seivalto::forms::term_of` meets its contract. Assumes nothing.
+-- `c_forms::term_of` meets its contract. Assumes nothing.
 use borrow.Author.Tests.{eq-eqb, ne-eqb}
-use Rattle.seivalto.proofs.forms.term_of.Statement.{statement}
-use Rattle.seivalto.proofs.forms.term_of.Tie as tie
+use Rattle.c_forms.proofs.term_of.Statement.{statement}
+use Rattle.c_forms.proofs.term_of.Tie as tie
 
 returns : tie.Need-returns
 returns c = rw (eq-eqb _ _ (c .if1 .taken))

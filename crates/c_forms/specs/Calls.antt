@@ -7,11 +7,11 @@ use Rattle.lists.specs.Fold.{over}
 use Rattle.cell_pairs.specs.Records.{rec}
 use Rattle.runs.specs.Runs.{Plan, EntryLists, look, addDistant, addTouching, addEntries, distantMatrix, touchingMatrix, entriesWritten, Answer, found, accepted, refused}
 use Rattle.runs.specs.Calls.{Call, looks, addsDistant, addsTouching, addsEntries}
-use Rattle.seivalto.specs.declared.CRecord.{CRecord}
-use Rattle.seivalto.specs.declared.CRun.{CRun}
-use Rattle.seivalto.specs.declared.CLooked.{CLooked}
-use Rattle.seivalto.specs.declared.CAdded.{CAdded}
-use Rattle.seivalto.specs.Forms.{runOf, cLooked, cAdded}
+use Rattle.c_forms.specs.declared.CRecord.{CRecord}
+use Rattle.c_forms.specs.declared.CRun.{CRun}
+use Rattle.c_forms.specs.declared.CLooked.{CLooked}
+use Rattle.c_forms.specs.declared.CAdded.{CAdded}
+use Rattle.c_forms.specs.Forms.{runOf, cLooked, cAdded}
 
 -- ---- what a host reads in an answer: `refusal` is 0 where the call is accepted
 

@@ -1,10 +1,10 @@
--- `seivalto::forms::c_run` meets its contract. Assumes nothing.
+-- `c_forms::c_run` meets its contract. Assumes nothing.
 use mathlib.Core.Path.{_≡_, refl}
 use mathlib.Core.Bool.{Bool, true, false, cond}
 use mir.Val.{boolByte}
 use borrow.Author.Needs.{needs}
-use Rattle.seivalto.proofs.forms.c_run.Statement.{statement}
-use Rattle.seivalto.proofs.forms.c_run.Tie as tie
+use Rattle.c_forms.proofs.c_run.Statement.{statement}
+use Rattle.c_forms.proofs.c_run.Tie as tie
 
 as-number : (b : Bool) → boolByte b ≡ cond b 1 0
 as-number true = refl

@@ -7,16 +7,16 @@ use lib.Dec.{eqb}
 use lib.Ieee.{Float}
 use Rattle.lists.specs.Bool.{_and_, _or_, and-left, and-right}
 use Rattle.lists.specs.Refusals.{Check, refusal, unless}
+use Rattle.function.specs.declared.Elements.{Elements}
 use Rattle.plans.specs.declared.PlanNumbers.{PlanNumbers}
 use Rattle.plans.specs.Planning.{Planning, Lists, planRefusal, planAnswer, plan, planNumbers}
 use Rattle.runs.specs.Runs.{Run, Plan, EntryLists, found, accepted, reply, recordOf, advance, lookRefusal, distantRefusal, touchingRefusal, entriesRefusal, look, addDistant, addTouching, addEntries}
 use Rattle.cell_pairs.specs.declared.WorkRecord.{WorkRecord}
 use Rattle.lent_numbers.specs.Lent.{Touching, Distant}
 use Rattle.sparse_lists.specs.Sparse.{SparseLists, valuesAt, keptOf, sparseRefusal, gathered, sparseRows}
-use Rattle.seivalto.specs.declared.CElements.{CElements}
-use Rattle.seivalto.specs.declared.CIntegrand.{CIntegrand}
-use Rattle.seivalto.specs.declared.CRun.{CRun}
-use Rattle.seivalto.specs.Forms.{runOf, cPlanned, cLooked, cAdded, cGathered}
+use Rattle.c_forms.specs.declared.CIntegrand.{CIntegrand}
+use Rattle.c_forms.specs.declared.CRun.{CRun}
+use Rattle.c_forms.specs.Forms.{runOf, cPlanned, cLooked, cAdded, cGathered}
 
 -- n is among the numbers
 unfoldable pub among : List ℕ → ℕ → Bool
@@ -52,7 +52,7 @@ refusal-among ms z (c ∷ cs) h = go (c .passes) (c .number) (refusal cs) (and-l
 
 -- ---- the refusal of an answer in C is the number
 
-planned-number : (test trial : CElements) (f : CIntegrand) (n : ℕ) (p : PlanNumbers) → cPlanned test trial f (planAnswer n p) .refusal ≡ n
+planned-number : (test trial : Elements) (f : CIntegrand) (n : ℕ) (p : PlanNumbers) → cPlanned test trial f (planAnswer n p) .refusal ≡ n
 planned-number test trial f zero p = refl
 planned-number test trial f (suc n) p = refl
 
@@ -70,7 +70,7 @@ gathered-number (suc v) n = refl
 
 -- ---- each function
 
-pub plan-among : (test trial : CElements) (f : CIntegrand) (x : Planning) (l : Lists) → among planning (cPlanned test trial f (plan x l) .refusal) ≡ true
+pub plan-among : (test trial : Elements) (f : CIntegrand) (x : Planning) (l : Lists) → among planning (cPlanned test trial f (plan x l) .refusal) ≡ true
 unfolding plan planRefusal among allAmong _and_ _or_
 plan-among test trial f x l = rw (planned-number test trial f (planRefusal x l) (planNumbers x)) (refusal-among planning refl _ refl)
 

@@ -1,7 +1,7 @@
--- `seivalto::forms::run_of` meets its contract. Assumes nothing.
+-- `c_forms::run_of` meets its contract. Assumes nothing.
 use borrow.Author.Needs.{needs}
-use Rattle.seivalto.proofs.forms.run_of.Statement.{statement}
-use Rattle.seivalto.proofs.forms.run_of.Tie as tie
+use Rattle.c_forms.proofs.run_of.Statement.{statement}
+use Rattle.c_forms.proofs.run_of.Tie as tie
 
 numbers-of-requires : tie.Need-numbers-of-requires
 numbers-of-requires c κs = search needs

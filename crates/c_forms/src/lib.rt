@@ -1,20 +1,9 @@
-// What the C forms stand for, and the C forms of what the calls answer.
-use crate::CAdded;
-use crate::CElements;
-use crate::CGathered;
-use crate::CIntegrand;
-use crate::CKindPairs;
-use crate::CLooked;
-use crate::CNumbers;
-use crate::CPlanned;
-use crate::CRecord;
-use crate::CRun;
-use crate::CTerm;
+// The forms in which runs, numbers and answers pass through C, what they stand for, and the C forms of what the calls answer. Elements and touching pairs per
+// two kinds pass as they are.
 use boundary_assemblers::Added;
 use boundary_assemblers::Looked;
 use boundary_assemblers::Run;
 use cell_pairs::WorkRecord;
-use function::Element;
 use function::Elements;
 use integrands::Integrand;
 use integrands::Term;
@@ -24,28 +13,88 @@ use plans::Planned;
 use sparse_lists::Gathered;
 ghost use mathlib.Core.Path.{_≡_};
 ghost use Rattle.boundary_assemblers.specs.Forms as Inner;
-ghost use Rattle.seivalto.specs.Forms.{elementsOf, termOf, integrandOf, numbersOf, runOf, cNumbers, noNumbers, cPlanned, cRecord, noRecord, cLooked, cRun, moved, cAdded, cGathered};
+ghost use Rattle.c_forms.specs.Forms.{termOf, integrandOf, numbersOf, runOf, cNumbers, noNumbers, cPlanned, cRecord, noRecord, cLooked, cRun, moved, cAdded, cGathered};
+
+// A term: `scaled` is 0 for a bare one, whose factor is not read, and any other number for one that carries the factor.
+#[repr(C)]
+pub struct CTerm {
+    pub scaled: u32,
+    pub kind: u32,
+    pub factor: f64,
+}
+
+// One or two terms. Where the count is 1 the second is not read.
+#[repr(C)]
+pub struct CIntegrand {
+    pub terms: u32,
+    pub first: CTerm,
+    pub second: CTerm,
+}
+
+// The numbers that planning hands back.
+#[repr(C)]
+pub struct CNumbers {
+    pub cells: u32,
+    pub vertices: u32,
+    pub edges: u32,
+    pub triangles: u32,
+    pub quads: u32,
+    pub touching: u32,
+    pub distant: u32,
+    pub pairs: KindPairs,
+    pub rows: u32,
+    pub columns: u32,
+    pub test: Elements,
+    pub trial: Elements,
+    pub integrand: CIntegrand,
+}
+
+// What planning answers: 0 and the numbers, or the number of a refusal.
+#[repr(C)]
+pub struct CPlanned {
+    pub refusal: u32,
+    pub numbers: CNumbers,
+}
+
+// A run: `entries` is 0 for a dense one, and any other number for an entries run.
+#[repr(C)]
+pub struct CRun {
+    pub numbers: CNumbers,
+    pub entries: u32,
+    pub position: u32,
+}
+
+// A record of the work list.
+#[repr(C)]
+pub struct CRecord {
+    pub pattern: u32,
+    pub test_cell: u32,
+    pub trial_cell: u32,
+}
+
+// What look answers: 0 and record p, or the number of a refusal.
+#[repr(C)]
+pub struct CLooked {
+    pub refusal: u32,
+    pub run: CRun,
+    pub record: CRecord,
+}
+
+// What an add or the entries call answers: 0, or the number of a refusal.
+#[repr(C)]
+pub struct CAdded {
+    pub refusal: u32,
+    pub run: CRun,
+}
+
+// What seivalto_sparse_rows answers: 0 and how many values are kept, or the number of a refusal and 0.
+#[repr(C)]
+pub struct CGathered {
+    pub refusal: u32,
+    pub kept: u64,
+}
 
 // ---- what a C form stands for
-
-pub(crate) fn elements_of(es: CElements) -> Elements
-    ensures { λ r. ⌜ r ≡ elementsOf es ⌝ }
-{
-    let triangle = es.triangle;
-    let quad = es.quad;
-    Elements {
-        triangle: Element {
-            a: triangle.a,
-            b: triangle.b,
-            c: triangle.c,
-        },
-        quad: Element {
-            a: quad.a,
-            b: quad.b,
-            c: quad.c,
-        },
-    }
-}
 
 // Bare where `scaled` is 0; for any other `scaled` the term carries the factor.
 fn term_of(t: CTerm) -> Term
@@ -57,7 +106,7 @@ fn term_of(t: CTerm) -> Term
     Term::Scaled(t.factor, t.kind)
 }
 
-pub(crate) fn integrand_of(f: CIntegrand) -> Integrand
+pub fn integrand_of(f: CIntegrand) -> Integrand
     ensures { λ r. ⌜ r ≡ integrandOf f ⌝ }
 {
     let first = term_of(f.first);
@@ -69,12 +118,12 @@ pub(crate) fn integrand_of(f: CIntegrand) -> Integrand
     }
 }
 
-pub(crate) fn numbers_of(n: CNumbers) -> PlanNumbers
+pub fn numbers_of(n: CNumbers) -> PlanNumbers
     ensures { λ r. ⌜ r ≡ numbersOf n ⌝ }
 {
-    let k = n.pairs;
-    let test = elements_of(n.test);
-    let trial = elements_of(n.trial);
+    let pairs = n.pairs;
+    let test = n.test;
+    let trial = n.trial;
     let integrand = integrand_of(n.integrand);
     PlanNumbers {
         cells: n.cells,
@@ -84,12 +133,7 @@ pub(crate) fn numbers_of(n: CNumbers) -> PlanNumbers
         quads: n.quads,
         touching: n.touching,
         distant: n.distant,
-        pairs: KindPairs {
-            triangle_triangle: k.triangle_triangle,
-            triangle_quad: k.triangle_quad,
-            quad_triangle: k.quad_triangle,
-            quad_quad: k.quad_quad,
-        },
+        pairs: pairs,
         rows: n.rows,
         columns: n.columns,
         test: test,
@@ -99,7 +143,7 @@ pub(crate) fn numbers_of(n: CNumbers) -> PlanNumbers
 }
 
 // Dense where `entries` is 0; for any other `entries` an entries run.
-pub(crate) fn run_of(c: CRun) -> Run
+pub fn run_of(c: CRun) -> Run
     ensures { λ r. ⌜ Inner.runOf r ≡ runOf c ⌝ }
 {
     let numbers = numbers_of(c.numbers);
@@ -113,7 +157,7 @@ pub(crate) fn run_of(c: CRun) -> Run
 // ---- the C forms of what the calls answer
 
 // Planning's numbers, with the elements, of both kinds whether present or not, and the integrand that the host gave.
-fn c_numbers(test: CElements, trial: CElements, f: CIntegrand, n: PlanNumbers) -> CNumbers
+fn c_numbers(test: Elements, trial: Elements, f: CIntegrand, n: PlanNumbers) -> CNumbers
     ensures { λ r. ⌜ r ≡ cNumbers test trial f n ⌝ }
 {
     let pairs = n.pairs;
@@ -125,12 +169,7 @@ fn c_numbers(test: CElements, trial: CElements, f: CIntegrand, n: PlanNumbers) -
         quads: n.quads,
         touching: n.touching,
         distant: n.distant,
-        pairs: CKindPairs {
-            triangle_triangle: pairs.triangle_triangle,
-            triangle_quad: pairs.triangle_quad,
-            quad_triangle: pairs.quad_triangle,
-            quad_quad: pairs.quad_quad,
-        },
+        pairs: pairs,
         rows: n.rows,
         columns: n.columns,
         test: test,
@@ -140,7 +179,7 @@ fn c_numbers(test: CElements, trial: CElements, f: CIntegrand, n: PlanNumbers) -
 }
 
 // What stands in their place where planning refuses.
-fn no_numbers(test: CElements, trial: CElements, f: CIntegrand) -> CNumbers
+fn no_numbers(test: Elements, trial: Elements, f: CIntegrand) -> CNumbers
     ensures { λ r. ⌜ r ≡ noNumbers test trial f ⌝ }
 {
     CNumbers {
@@ -151,7 +190,7 @@ fn no_numbers(test: CElements, trial: CElements, f: CIntegrand) -> CNumbers
         quads: 0,
         touching: 0,
         distant: 0,
-        pairs: CKindPairs {
+        pairs: KindPairs {
             triangle_triangle: 0,
             triangle_quad: 0,
             quad_triangle: 0,
@@ -165,12 +204,7 @@ fn no_numbers(test: CElements, trial: CElements, f: CIntegrand) -> CNumbers
     }
 }
 
-pub(crate) fn c_planned(
-    test: CElements,
-    trial: CElements,
-    f: CIntegrand,
-    answer: Planned,
-) -> CPlanned
+pub fn c_planned(test: Elements, trial: Elements, f: CIntegrand, answer: Planned) -> CPlanned
     ensures { λ r. ⌜ r ≡ cPlanned test trial f answer ⌝ }
 {
     match answer {
@@ -192,7 +226,7 @@ pub(crate) fn c_planned(
 }
 
 // A run that begins, with the numbers that the host gave.
-pub(crate) fn c_run(n: CNumbers, run: Run) -> CRun
+pub fn c_run(n: CNumbers, run: Run) -> CRun
     ensures { λ r. ⌜ r ≡ cRun n (Inner.runOf run) ⌝ }
 {
     CRun {
@@ -235,7 +269,7 @@ fn no_record() -> CRecord
     }
 }
 
-pub(crate) fn c_looked(c: CRun, answer: Looked) -> CLooked
+pub fn c_looked(c: CRun, answer: Looked) -> CLooked
     ensures { λ r. ⌜ r ≡ cLooked c (Inner.lookedOf answer) ⌝ }
 {
     match answer {
@@ -260,7 +294,7 @@ pub(crate) fn c_looked(c: CRun, answer: Looked) -> CLooked
     }
 }
 
-pub(crate) fn c_added(c: CRun, answer: Added) -> CAdded
+pub fn c_added(c: CRun, answer: Added) -> CAdded
     ensures { λ r. ⌜ r ≡ cAdded c (Inner.addedOf answer) ⌝ }
 {
     match answer {
@@ -281,7 +315,7 @@ pub(crate) fn c_added(c: CRun, answer: Added) -> CAdded
     }
 }
 
-pub(crate) fn c_gathered(answer: Gathered) -> CGathered
+pub fn c_gathered(answer: Gathered) -> CGathered
     ensures { λ r. ⌜ r ≡ cGathered answer ⌝ }
 {
     match answer {
