@@ -7,9 +7,8 @@ use mathlib.Core.List.{List, [], _∷_, _++_, flatMap, map}
 use lib.ListN.{getD, take, drop}
 use lib.Dec.{eqb}
 use Rattle.lists.specs.Bool.{_and_}
-use Rattle.lists.specs.Bounded.{least}
 use Rattle.lists.specs.Range.{range, when}
-use Rattle.grid.specs.Cells.{edgesOf, endsOf, sameTwo}
+use Rattle.grid.specs.Cells.{edgesOf, endsOf, edgeJoining}
 use Rattle.cell_pairs.specs.Records.{patternCount}
 use Rattle.cell_pairs.specs.Matches.{Match, _↔_, sameMatches}
 use Rattle.cell_pairs.specs.Cases.{canBe}
@@ -243,10 +242,6 @@ block n k = vertexBlock n k ++ edgeBlock n k ++ cellBlock n k
 -- where the block of test kind n and trial kind k begins
 abbrev pub blockStart : ℕ → ℕ → ℕ
 blockStart n k = cond (eqb n 3) (cond (eqb k 3) 0 28) (cond (eqb k 3) 64 100)
-
--- the local edge of a cell of kind n that joins local vertices a and b; n where none does
-unfoldable pub edgeJoining : ℕ → ℕ → ℕ → ℕ
-edgeJoining n a b = least n (λ e. sameTwo (endsOf n e .first) (endsOf n e .second) a b)
 
 -- The place inside the block of test kind n and trial kind k: the triangle formula, with k for 3 and nk for 9. Of one pair (i,j): ki + j. Of two, on test
 -- edge e and trial edge g: nk + 2(ke + g), plus 1 if the first trial vertex matches the second test vertex. Of more: 3nk, after the edges. Of none: past

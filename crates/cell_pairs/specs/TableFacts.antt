@@ -11,13 +11,13 @@ use borrow.Author.Tests.{ltb-true, eqb-true, eq-eqb, lt-ltb}
 use Rattle.lists.specs.Bool.{_and_, _or_, true≢false, cases, and-left, and-right, and-both, every-at}
 use Rattle.lists.specs.Bounded.{all, all-at, least, least-is, least-none, least-holds}
 use Rattle.lists.specs.Range.{range}
-use Rattle.grid.specs.Cells.{sameTwo}
+use Rattle.grid.specs.Cells.{sameTwo, edgeJoining}
 use Rattle.cell_pairs.specs.Records.{patternCount}
 use Rattle.cell_pairs.specs.Matches.{Match, _↔_, sameMatches, edgeOf, triangleCount, patternOf}
 use Rattle.cell_pairs.specs.MatchesFacts.{joined, same-matches, same-matches-refl}
 use Rattle.cell_pairs.specs.Cases.{caseAt, canBe}
 use Rattle.cell_pairs.specs.CasesFacts.{can-be-case}
-use Rattle.cell_pairs.specs.Table.{Pattern, pattern, table, patternAt, fromTo, same, placeOf, numberOf, block, edgeJoining, inBlock, formulaNumber, ofTwoTriangles}
+use Rattle.cell_pairs.specs.Table.{Pattern, pattern, table, patternAt, fromTo, same, placeOf, numberOf, block, inBlock, formulaNumber, ofTwoTriangles}
 
 -- ---- the test `same` is equality
 

@@ -1,22 +1,22 @@
--- Laws of the formula as its number is found: where a block begins, the local edge that joins two places, the place inside the block; of the digits of shared
+-- Laws of the formula as its number is found: where a block begins, the place inside the block; of the digits of shared
 -- vertices; and of the row of the table where the formula points. Assumes nothing.
 use Prim.Native.Nat.{ℕ, zero, suc, _+_, _*_, _<_, _≤_}
 use native.Mathlib.Nat.{add-zero, mul-le-mul-right}
 use native.Mathlib.Omega.{arith}
 use mathlib.Core.Path.{_≡_, refl, sym, _∙_}
-use mathlib.Core.Bool.{Bool, true, false, cond}
+use mathlib.Core.Bool.{cond}
 use mathlib.Core.Logic.{⊎-elim}
 use mathlib.Core.List.{List}
 use lib.ListN.{getD}
 use lib.Dec.{eqb}
 use borrow.Author.Tests.{eq-eqb, ne-eqb, lt-ltb, le-ltb}
 use Rattle.lists.specs.Bool.{_and_}
-use Rattle.lists.specs.Bounded.{least, eq-or-ne, lt-or-le}
+use Rattle.lists.specs.Bounded.{eq-or-ne}
 use Rattle.lists.specs.Range.{range}
-use Rattle.grid.specs.Cells.{endsOf, sameTwo}
+use Rattle.grid.specs.Cells.{endsOf, edgeJoining}
 use Rattle.cell_pairs.specs.Records.{patternCount}
 use Rattle.cell_pairs.specs.Matches.{Match}
-use Rattle.cell_pairs.specs.Table.{Pattern, pattern, numberOf, blockStart, edgeJoining, inBlock, formulaNumber}
+use Rattle.cell_pairs.specs.Table.{Pattern, pattern, numberOf, blockStart, inBlock, formulaNumber}
 use Rattle.cell_pairs.specs.TableFacts.{number-by-formula}
 use Rattle.pattern_table.specs.Numbers.{codeOn, codeOf, codeAt}
 use Rattle.cell_patterns.specs.Shared.{listed}
@@ -37,50 +37,8 @@ module _ (n k : ℕ) where
   pub start-neither : (n ≡ 3 → ⊥) → (k ≡ 3 → ⊥) → 100 ≡ blockStart n k
   start-neither e f = rw (ne-eqb n 3 e, ne-eqb k 3 f)
 
--- a kind that is not 3 is 4
-pub is-four : (n : ℕ) → 3 ≤ n → n ≤ 4 → (n ≡ 3 → ⊥) → n ≡ 4
-is-four n l m h = ⊎-elim (λ b. absurd (h (omega arith))) (λ b. omega arith) (lt-or-le n 4)
-
 pub sixteen : (a b : ℕ) → a ≤ 4 → b ≤ 4 → a * b ≤ 16
 sixteen a b h k = omega (arith, mul-le-mul-right b h)
-
--- ---- the local edge that joins two places
-
--- the first of three tests that holds, and of four
-first-three : (x y z : Bool) → cond x 0 (suc (cond y 0 (suc (cond z 0 (suc zero))))) ≡ cond x 0 (cond y 1 (cond z 2 3))
-first-three true y z = refl
-first-three false true z = refl
-first-three false false true = refl
-first-three false false false = refl
-
-first-four : (x y z w : Bool) → cond x 0 (suc (cond y 0 (suc (cond z 0 (suc (cond w 0 (suc zero))))))) ≡ cond x 0 (cond y 1 (cond z 2 (cond w 3 4)))
-first-four true y z w = refl
-first-four false true z w = refl
-first-four false false true w = refl
-first-four false false false true = refl
-first-four false false false false = refl
-
-pub joining-three : (n a b : ℕ) → n ≡ 3 → edgeJoining n a b ≡ cond (sameTwo 1 2 a b) 0 (cond (sameTwo 0 2 a b) 1 (cond (sameTwo 0 1 a b) 2 3))
-unfolding edgeJoining least
-joining-three n a b e = rw e (first-three (sameTwo 1 2 a b) (sameTwo 0 2 a b) (sameTwo 0 1 a b))
-
-pub joining-four : (n a b : ℕ) → n ≡ 4 → edgeJoining n a b ≡ cond (sameTwo 0 1 a b) 0 (cond (sameTwo 0 2 a b) 1 (cond (sameTwo 1 3 a b) 2 (cond (sameTwo 2 3 a b) 3 4)))
-unfolding edgeJoining least
-joining-four n a b e = rw e (first-four (sameTwo 0 1 a b) (sameTwo 0 2 a b) (sameTwo 1 3 a b) (sameTwo 2 3 a b))
-
--- no edge: there is no second vertex
-pub second-past-three : (n e : ℕ) → n ≡ 3 → (e ≡ 0 → ⊥) → (e ≡ 1 → ⊥) → (e ≡ 2 → ⊥) → 0 ≡ endsOf n e .second
-second-past-three n zero k a b c = absurd (a refl)
-second-past-three n (suc zero) k a b c = absurd (b refl)
-second-past-three n (suc (suc zero)) k a b c = absurd (c refl)
-second-past-three n (suc (suc (suc e))) k a b c = rw (eq-eqb n 3 k)
-
-pub second-past-four : (n e : ℕ) → (n ≡ 3 → ⊥) → (e ≡ 0 → ⊥) → (e ≡ 1 → ⊥) → (e ≡ 2 → ⊥) → (e ≡ 3 → ⊥) → 0 ≡ endsOf n e .second
-second-past-four n zero k a b c d = absurd (a refl)
-second-past-four n (suc zero) k a b c d = absurd (b refl)
-second-past-four n (suc (suc zero)) k a b c d = absurd (c refl)
-second-past-four n (suc (suc (suc zero))) k a b c d = absurd (d refl)
-second-past-four n (suc (suc (suc (suc e)))) k a b c d = rw (ne-eqb n 3 k)
 
 -- ---- the place inside the block
 

@@ -1,6 +1,8 @@
 // Cells of any kinds: the vertices that two cells share, and the pattern of these. The formula says where in the table it has to stand, and the row that stands
 // there is read.
 use cell_pairs::NO_PATTERN;
+use grid::edge_joining;
+use grid::second_of;
 use pattern_table::table_row;
 ghost use mathlib.Core.Path.{_≡_};
 ghost use mathlib.Core.Bool.{true};
@@ -9,10 +11,10 @@ ghost use Prim.Native.Nat.{_+_, _*_, _≤_, _<_};
 ghost use lib.ListN.{length, getD};
 ghost use lib.Dec.{ltb};
 ghost use Rattle.lists.specs.Range.{when};
-ghost use Rattle.grid.specs.Cells.{distinct, endsOf, sameTwo};
+ghost use Rattle.grid.specs.Cells.{distinct};
 ghost use Rattle.cell_pairs.specs.Matches.{_↔_, matches};
 ghost use Rattle.cell_pairs.specs.Patterns.{cellsPattern};
-ghost use Rattle.cell_pairs.specs.Table.{pattern, numberOf, blockStart, edgeJoining, inBlock};
+ghost use Rattle.cell_pairs.specs.Table.{pattern, numberOf, blockStart, inBlock};
 ghost use Rattle.triangle_patterns.specs.Triangles.{cellsRight};
 ghost use Rattle.pattern_table.specs.Numbers.{codeOf};
 ghost use Rattle.cell_patterns.specs.Shared.{placeIn, listed};
@@ -120,67 +122,6 @@ fn block_start(n: u32, k: u32) -> u32
         return 64;
     }
     100
-}
-
-// Whether a local edge of the vertices p and q joins a and b.
-fn joins(p: u32, q: u32, a: u32, b: u32) -> bool
-    ensures { λ r. ⌜ r ≡ sameTwo p q a b ⌝ }
-{
-    ((p == a) & (q == b)) | ((p == b) & (q == a))
-}
-
-// The local edge of a cell of kind n, 3 or 4, that joins local vertices a and b; n where none does.
-fn edge_joining(n: u32, a: u32, b: u32) -> u32
-    requires { ⌜ (3 ≤ n) × (n ≤ 4) ⌝ }
-    ensures { λ r. ⌜ (r ≡ edgeJoining n a b) × (r ≤ 4) ⌝ }
-{
-    if n == 3 {
-        if joins(1, 2, a, b) {
-            return 0;
-        }
-        if joins(0, 2, a, b) {
-            return 1;
-        }
-        if joins(0, 1, a, b) {
-            return 2;
-        }
-        return 3;
-    }
-    if joins(0, 1, a, b) {
-        return 0;
-    }
-    if joins(0, 2, a, b) {
-        return 1;
-    }
-    if joins(1, 3, a, b) {
-        return 2;
-    }
-    if joins(2, 3, a, b) {
-        return 3;
-    }
-    4
-}
-
-// The second local vertex of local edge e of a cell of kind n; 0 where there is no such edge.
-fn second_of(n: u32, e: u32) -> u32
-    ensures { λ r. ⌜ r ≡ endsOf n e .second ⌝ }
-{
-    if n == 3 {
-        match e {
-            0 => 2,
-            1 => 2,
-            2 => 1,
-            _ => 0,
-        }
-    } else {
-        match e {
-            0 => 1,
-            1 => 2,
-            2 => 3,
-            3 => 3,
-            _ => 0,
-        }
-    }
 }
 
 // The place inside the block of test kind n and trial kind k that the formula gives the shared vertices.

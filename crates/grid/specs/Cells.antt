@@ -6,7 +6,7 @@ use mathlib.Core.List.{List, [], _∷_}
 use lib.ListN.{length, getD, take, drop}
 use lib.Dec.{eqb}
 use Rattle.lists.specs.Bool.{_and_, _or_}
-use Rattle.lists.specs.Bounded.{all, some}
+use Rattle.lists.specs.Bounded.{all, some, least}
 
 -- how many numbers the cells before cell i have together, where a cell of kind n has w n of them and ks are the kinds
 unfoldable pub before : (ℕ → ℕ) → List ℕ → ℕ → ℕ
@@ -56,3 +56,7 @@ endsOf n e = getD (edgesOf n) e (0 – 0)
 -- {a, b} and {c, d} are the same two
 unfoldable pub sameTwo : ℕ → ℕ → ℕ → ℕ → Bool
 sameTwo a b c d = (eqb a c and eqb b d) or (eqb a d and eqb b c)
+
+-- the local edge of a cell of kind n that joins local vertices a and b; n where none does
+unfoldable pub edgeJoining : ℕ → ℕ → ℕ → ℕ
+edgeJoining n a b = least n (λ e. sameTwo (endsOf n e .first) (endsOf n e .second) a b)

@@ -7,10 +7,12 @@ pub use checks::mesh_refusal;
 pub use shape::cell_of;
 pub use shape::corners_of;
 pub use shape::count_kind;
+pub use shape::edge_joining;
 pub use shape::fourth_or_first;
 pub use shape::has_entity;
 pub use shape::is_triangle;
 pub use shape::kinds_match;
+pub use shape::second_of;
 pub use shape::write_rows;
 
 // The most cells, vertices and edges of a mesh.

@@ -11,7 +11,7 @@ ghost use lib.Dec.{eqb};
 ghost use Rattle.lists.specs.Bool.{_or_};
 ghost use Rattle.lists.specs.Bounded.{all};
 ghost use Rattle.numbers.specs.Ranges.{allBelow};
-ghost use Rattle.grid.specs.Cells.{before, own, has, distinct};
+ghost use Rattle.grid.specs.Cells.{before, own, has, distinct, endsOf, sameTwo, edgeJoining};
 ghost use Rattle.grid.specs.CellsFacts.{Shaped};
 ghost use Rattle.grid.specs.Rows.{entity, row, rowsOf, cellIn, fourthOrFirst};
 ghost use Rattle.grid.specs.RowsFacts.{filled};
@@ -57,7 +57,7 @@ fn count_few(kinds: &[u8], kind: u8) -> u8
     count
 }
 
-// So few.
+// The most cells that are counted in eight bits.
 const FEW: usize = 128;
 
 // How many cells are of a kind.
@@ -205,6 +205,67 @@ pub(crate) fn write_cell_keys(cell: &[u32], keys: &mut [u32], at: usize)
         keys[at + 1] = pair_key(cell, 0, 2);
         keys[at + 2] = pair_key(cell, 1, 3);
         keys[at + 3] = pair_key(cell, 2, 3);
+    }
+}
+
+// Whether a local edge of the vertices p and q joins a and b.
+fn joins(p: u32, q: u32, a: u32, b: u32) -> bool
+    ensures { λ r. ⌜ r ≡ sameTwo p q a b ⌝ }
+{
+    ((p == a) & (q == b)) | ((p == b) & (q == a))
+}
+
+// The local edge of a cell of kind n, 3 or 4, that joins local vertices a and b; n where none does.
+pub fn edge_joining(n: u32, a: u32, b: u32) -> u32
+    requires { ⌜ (3 ≤ n) × (n ≤ 4) ⌝ }
+    ensures { λ r. ⌜ (r ≡ edgeJoining n a b) × (r ≤ 4) ⌝ }
+{
+    if n == 3 {
+        if joins(1, 2, a, b) {
+            return 0;
+        }
+        if joins(0, 2, a, b) {
+            return 1;
+        }
+        if joins(0, 1, a, b) {
+            return 2;
+        }
+        return 3;
+    }
+    if joins(0, 1, a, b) {
+        return 0;
+    }
+    if joins(0, 2, a, b) {
+        return 1;
+    }
+    if joins(1, 3, a, b) {
+        return 2;
+    }
+    if joins(2, 3, a, b) {
+        return 3;
+    }
+    4
+}
+
+// The second local vertex of local edge e of a cell of kind n; 0 where there is no such edge.
+pub fn second_of(n: u32, e: u32) -> u32
+    ensures { λ r. ⌜ r ≡ endsOf n e .second ⌝ }
+{
+    if n == 3 {
+        match e {
+            0 => 2,
+            1 => 2,
+            2 => 1,
+            _ => 0,
+        }
+    } else {
+        match e {
+            0 => 1,
+            1 => 2,
+            2 => 3,
+            3 => 3,
+            _ => 0,
+        }
     }
 }
 

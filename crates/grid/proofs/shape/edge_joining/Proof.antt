@@ -1,10 +1,10 @@
--- `cell_patterns::shared::edge_joining` meets its contract: each return has the tests that led there. Assumes nothing.
+-- `grid::shape::edge_joining` meets its contract: each return has the tests that led there. Assumes nothing.
 use native.Mathlib.Omega.{arith}
 use mathlib.Core.Path.{sym, _∙_}
-use Rattle.cell_patterns.specs.FormulaFacts.{is-four, joining-three, joining-four}
+use Rattle.grid.specs.EdgesFacts.{is-four, joining-three, joining-four}
 use borrow.Author.Needs.{needs}
-use Rattle.cell_patterns.proofs.shared.edge_joining.Statement.{statement}
-use Rattle.cell_patterns.proofs.shared.edge_joining.Tie as tie
+use Rattle.grid.proofs.shape.edge_joining.Statement.{statement}
+use Rattle.grid.proofs.shape.edge_joining.Tie as tie
 
 joins-requires : tie.Need-joins-requires
 joins-requires c κs = search needs

@@ -1,8 +1,8 @@
--- `cell_patterns::shared::second_of` meets its contract: each return has the tests that led there. Assumes nothing.
+-- `grid::shape::second_of` meets its contract: each return has the tests that led there. Assumes nothing.
 use borrow.Author.Tests.{eq-eqb, ne-eqb}
-use Rattle.cell_patterns.specs.FormulaFacts.{second-past-three, second-past-four}
-use Rattle.cell_patterns.proofs.shared.second_of.Statement.{statement}
-use Rattle.cell_patterns.proofs.shared.second_of.Tie as tie
+use Rattle.grid.specs.EdgesFacts.{second-past-three, second-past-four}
+use Rattle.grid.proofs.shape.second_of.Statement.{statement}
+use Rattle.grid.proofs.shape.second_of.Tie as tie
 
 returns : tie.Need-returns
 returns c = rw (c .match .keys1, eq-eqb _ 3 (c .before .if1 .taken))
