@@ -2,7 +2,7 @@
 // builds and runs it; it compares the libraries of two commits, where what a host lends is the same.
 //
 // Each line: cells, kinds, element, milliseconds of a planning, nanoseconds of a look, and of a look and an add together. Kind 0, 6 points a side, batch 128. Each
-// figure is the least of many short rounds, so that another process on the machine does little harm.
+// figure is the least of many short rounds, so that work beside it harms less; beside a loaded machine compare several processes.
 #define _POSIX_C_SOURCE 199309L
 #include <stdint.h>
 #include <stdio.h>
