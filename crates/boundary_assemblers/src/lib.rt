@@ -1,4 +1,6 @@
 // The run, begun from what planning hands back, and its calls.
+#![tactic(auto)]
+
 mod adds;
 mod calls;
 mod entries;
@@ -7,7 +9,7 @@ use cell_pairs::WorkRecord;
 use plans::PlanNumbers;
 
 // A run: the numbers of the planning that it was begun from, whether it is an entries run, and its position p.
-#[derive(Drop)]
+#[derive(Clone, Copy)]
 pub struct Run {
     pub numbers: PlanNumbers,
     pub entries: bool,
@@ -15,21 +17,21 @@ pub struct Run {
 }
 
 // What look hands back.
-#[derive(Drop)]
+#[derive(Clone, Copy)]
 pub enum Looked {
     Found(Run, WorkRecord),
     Refused(Run, u32),
 }
 
 // What an add or the entries call hands back.
-#[derive(Drop)]
+#[derive(Clone, Copy)]
 pub enum Added {
     Accepted(Run),
     Refused(Run, u32),
 }
 
 // A cell of record p: its kind, and where its DOFs begin in the DOF list of its side and how many they are.
-#[derive(Drop)]
+#[derive(Clone, Copy)]
 pub(crate) struct Cell {
     pub kind: u8,
     pub start: usize,
@@ -37,7 +39,7 @@ pub(crate) struct Cell {
 }
 
 // Record p, and its two cells.
-#[derive(Drop)]
+#[derive(Clone, Copy)]
 pub(crate) struct Pair {
     pub item: WorkRecord,
     pub test: Cell,
@@ -45,7 +47,7 @@ pub(crate) struct Pair {
 }
 
 // What the checks that every call makes hand back: record p and its cells where all pass, else the refusal.
-#[derive(Drop)]
+#[derive(Clone, Copy)]
 pub(crate) enum Checked {
     Passed(Pair),
     Refused(u32),

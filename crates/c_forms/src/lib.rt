@@ -1,5 +1,7 @@
 // The forms in which runs, numbers and answers pass through C, what they stand for, and the C forms of what the calls answer. Elements and touching pairs per
 // two kinds pass as they are.
+#![tactic(auto)]
+
 ghost use Rattle.std.specs.Prelude.{◌≡◌};
 ghost use Rattle.boundary_assemblers.specs.Forms as Inner;
 ghost use Rattle.c_forms.specs.Forms.{term_of, integrand_of, numbers_of, run_of, c_numbers, no_numbers, c_planned, c_record, no_record, c_looked, c_run, moved, c_added, c_gathered};
@@ -13,7 +15,7 @@ use sparse_lists::Gathered;
 
 // A term: `scaled` is 0 for a bare one, whose factor is not read, and any other number for one that carries the factor.
 #[repr(C)]
-#[derive(Drop)]
+#[derive(Clone, Copy)]
 pub struct CTerm {
     pub scaled: u32,
     pub kind: u32,
@@ -22,7 +24,7 @@ pub struct CTerm {
 
 // One or two terms. Where the count is 1 the second is not read.
 #[repr(C)]
-#[derive(Drop)]
+#[derive(Clone, Copy)]
 pub struct CIntegrand {
     pub terms: u32,
     pub first: CTerm,
@@ -31,7 +33,7 @@ pub struct CIntegrand {
 
 // The numbers that planning hands back.
 #[repr(C)]
-#[derive(Drop)]
+#[derive(Clone, Copy)]
 pub struct CNumbers {
     pub cells: u32,
     pub vertices: u32,
@@ -50,7 +52,7 @@ pub struct CNumbers {
 
 // What planning answers: 0 and the numbers, or the number of a refusal.
 #[repr(C)]
-#[derive(Drop)]
+#[derive(Clone, Copy)]
 pub struct CPlanned {
     pub refusal: u32,
     pub numbers: CNumbers,
@@ -58,7 +60,7 @@ pub struct CPlanned {
 
 // A run: `entries` is 0 for a dense one, and any other number for an entries run.
 #[repr(C)]
-#[derive(Drop)]
+#[derive(Clone, Copy)]
 pub struct CRun {
     pub numbers: CNumbers,
     pub entries: u32,
@@ -67,7 +69,7 @@ pub struct CRun {
 
 // A record of the work list.
 #[repr(C)]
-#[derive(Drop)]
+#[derive(Clone, Copy)]
 pub struct CRecord {
     pub pattern: u32,
     pub test_cell: u32,
@@ -76,7 +78,7 @@ pub struct CRecord {
 
 // What look answers: 0 and record p, or the number of a refusal.
 #[repr(C)]
-#[derive(Drop)]
+#[derive(Clone, Copy)]
 pub struct CLooked {
     pub refusal: u32,
     pub run: CRun,
@@ -85,7 +87,7 @@ pub struct CLooked {
 
 // What an add or the entries call answers: 0, or the number of a refusal.
 #[repr(C)]
-#[derive(Drop)]
+#[derive(Clone, Copy)]
 pub struct CAdded {
     pub refusal: u32,
     pub run: CRun,
@@ -93,7 +95,7 @@ pub struct CAdded {
 
 // What seivalto_sparse_rows answers: 0 and how many values are kept, or the number of a refusal and 0.
 #[repr(C)]
-#[derive(Drop)]
+#[derive(Clone, Copy)]
 pub struct CGathered {
     pub refusal: u32,
     pub kept: u64,

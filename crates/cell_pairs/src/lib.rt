@@ -1,5 +1,7 @@
 // Pairs of cells. Here a record of the work list: what it holds, and how it lies in a list of numbers, read and written. In specs/ the table of the
 // patterns of touching pairs, check 7, the work list, and the counting theorem.
+#![tactic(auto)]
+
 ghost use Rattle.std.specs.Prelude.{◌≡◌, [], ◌∷◌, ◌+◌, ◌*◌, ◌≤◌, length};
 ghost use Rattle.lists.specs.Writes.{Wrote, Room};
 ghost use Rattle.cell_pairs.specs.Records.{width, record_at};
@@ -18,7 +20,7 @@ pub const NO_PATTERN: u32 = PATTERNS as u32;
 pub const DISTANT: u32 = 255;
 
 // The pattern of a pair of cells, the test cell and the trial cell.
-#[derive(Drop)]
+#[derive(Clone, Copy)]
 pub struct WorkRecord {
     pub pattern: u32,
     pub test: u32,

@@ -1,5 +1,7 @@
 // Touching pairs (`get_pairs_if_smallest`): the pattern of two cells, their smallest shared vertex, and check 7. The cells are read from rows, four numbers a
 // cell: the fourth of a triangle is `none`, the number of no vertex.
+#![tactic(auto)]
+
 mod shared; // shared.rt: cells of any kinds
 
 ghost use Rattle.std.specs.Prelude.{◌≡◌, true, ℕ, ◌+◌, ◌*◌, ◌/◌, ◌^◌, ◌≤◌, ◌<◌, length, get_or, eqb};

@@ -16,7 +16,7 @@ use grid::{edge_joining, second_of};
 use pattern_table::table_row;
 
 // The shared vertices of two cells: how many, and the places of each in the test cell and in the trial cell.
-#[derive(Drop)]
+#[derive(Clone, Copy)]
 struct Shared {
     pairs: u32,
     tests: [u32; 4],

@@ -1,5 +1,7 @@
 // Check 27: no cell has the same vertices as an earlier one. Two cells that have them meet at each vertex of either, so a cell is held against the cells at one of its
 // vertices alone. The cells are read from rows, four numbers a cell: the fourth of a triangle is `none`, the number of no vertex.
+#![tactic(auto)]
+
 ghost use Rattle.std.specs.Prelude.{◌≡◌, not, ◌⊎◌, ℕ, ◌+◌, ◌*◌, ◌/◌, ◌≤◌, ◌<◌, length, get_or};
 ghost use Rattle.lists.specs.Bounded.{all};
 ghost use Rattle.grid.specs.Cells.{has};

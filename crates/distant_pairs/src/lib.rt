@@ -3,6 +3,8 @@
 // on, and the result is the place after them. Cells are read by their rows; an order holds the cells
 // group after group, colour by colour of the triangles and then of the quads, and its ends where each
 // group's end.
+#![tactic(auto)]
+
 ghost use Rattle.std.specs.Prelude.{◌≡◌, ◌+◌, ◌*◌, ◌≤◌, ◌<◌, length};
 ghost use Rattle.lists.specs.Range.{batch};
 ghost use Rattle.lists.specs.Writes.{Wrote, Room};

@@ -1,4 +1,6 @@
 // The numbering of the DOFs: cell by cell, the cell's vertices, its edges, its interior.
+#![tactic(auto)]
+
 ghost use Rattle.std.specs.Prelude.{◌≡◌, ◌++◌, ◌+◌, ◌*◌, ◌<◌, ◌≤◌, length, drop};
 ghost use Rattle.std.proofs.lemmas.List.Edits.{sets};
 ghost use Rattle.grid.specs.Cells.{before};
@@ -15,7 +17,7 @@ use numbers::wide;
 const MOST_ENTITIES: usize = MOST_VERTICES + MOST_EDGES + MOST_CELLS;
 
 // Where the walk stands: the next place in the DOF list, and the next free number.
-#[derive(Drop)]
+#[derive(Clone, Copy)]
 struct Next {
     at: usize,
     free: u32,

@@ -1,1 +1,2 @@
 // The paper's examples: specs/ alone.
+#![tactic(auto)]

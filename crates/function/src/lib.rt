@@ -1,4 +1,6 @@
 // Elements on a mesh, and colours.
+#![tactic(auto)]
+
 ghost use Rattle.std.specs.Prelude.{◌≡◌};
 ghost use Rattle.numbers.specs.Ranges.{within};
 ghost use Rattle.function.specs.Elements.{most_dim, dim_of, element_of, cell_dim, elements_right, dims_right};
@@ -15,7 +17,7 @@ pub const MOST_DIM: usize = 10;
 
 // DOFs per vertex (a), per edge (b) and per cell (c).
 #[repr(C)]
-#[derive(Drop)]
+#[derive(Clone, Copy)]
 pub struct Element {
     pub a: u32,
     pub b: u32,
@@ -41,7 +43,7 @@ fn is_dim(n: usize) -> bool
 
 // An element for each kind of cell.
 #[repr(C)]
-#[derive(Drop)]
+#[derive(Clone, Copy)]
 pub struct Elements {
     pub triangle: Element,
     pub quad: Element,

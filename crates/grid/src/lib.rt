@@ -1,4 +1,6 @@
 // The mesh: the shape of a cell (`shape`), checks 1, 26, 2 and 3 (`checks`), and the edge rule (`edge_rule`).
+#![tactic(auto)]
+
 mod checks;
 mod edge_rule;
 mod shape;
@@ -17,7 +19,7 @@ pub const MOST_VERTICES: usize = 4096;
 pub const MOST_EDGES: usize = 8192;
 
 // The numbers of cells, vertices and edges of a mesh.
-#[derive(Drop)]
+#[derive(Clone, Copy)]
 pub struct Sizes {
     pub cells: u32,
     pub vertices: u32,

@@ -1,4 +1,6 @@
 // The job format: the fields of a job and checks 12 and 13 (`reading`), and what its first 7 bytes decide (`head`).
+#![tactic(auto)]
+
 mod head;
 mod reading;
 
@@ -10,7 +12,7 @@ pub use reading::read_job;
 pub const MOST_WORKLIST_CELLS: u32 = 64;
 
 // The numbers of a job that stand before its lists: C, V, E, the two elements and the batch size.
-#[derive(Drop)]
+#[derive(Clone, Copy)]
 pub struct JobNumbers {
     pub cells: u32,
     pub vertices: u32,
@@ -21,14 +23,14 @@ pub struct JobNumbers {
 }
 
 // What reading a job answers.
-#[derive(Drop)]
+#[derive(Clone, Copy)]
 pub enum JobRead {
     Whole(JobNumbers),
     Refused(u32),
 }
 
 // What the first 7 bytes of a job answer: C, or that they are refused whatever follows.
-#[derive(Drop)]
+#[derive(Clone, Copy)]
 pub enum HeadRead {
     Cells(u32),
     Refused(u32),

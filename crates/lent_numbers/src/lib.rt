@@ -1,4 +1,6 @@
 // What a pair of cells is lent: checks 9 to 11.
+#![tactic(auto)]
+
 ghost use Rattle.function.specs.Elements.{most_dim};
 ghost use Rattle.std.specs.Prelude.{◌≡◌, ℕ, ◌*◌, ◌≤◌, length};
 ghost use Rattle.lists.specs.Refusals.{refusal};

@@ -1,5 +1,7 @@
 // Runs the recorded cases of data/cases, each a pair of cells with what is lent for it, and compares every entry of its local matrix by its bits.
 // tools/record_cases.c made the file: a C implementation written from the paper. Its head says how, and what a line holds.
+#![tactic(auto)]
+
 ghost use Rattle.std.specs.Prelude.{◌≡◌, ◌≤◌, length};
 
 use integrands::Integrand;
@@ -251,7 +253,7 @@ fn case_agrees(fd: i32) -> bool {
 
 // ---- the cases, in groups
 
-#[derive(Drop)]
+#[derive(Clone, Copy)]
 struct Tally {
     cases: u64,
     differ: u64,

@@ -49,6 +49,8 @@ kept f s (suc m) e t =
 
 same_bits : (f : Format) (x : Float) (s : Bool) (m : ℕ) (e : ℤ) → HasValue x s (m * up e) (down e) → to_bits f x ≡ to_bits f (fin s m e)
 unfolding to_bits
+same_bits f nan s m e v = elim v [ ]
+same_bits f (inf _) s m e v = elim v [ ]
 same_bits f (fin t n d) s m e v =
     let l = 2 ^ low f in
     rw (v.0, div_same (n * up d * l) (down d) (m * up e * l) (down e) (down_pos d) (down_pos e) (mul_right_comm (n * up d) l (down e) ∙ ap (λ (x : ℕ). x * l) v.1 ∙ mul_right_comm (m * up e) (down d) l))

@@ -1,4 +1,6 @@
 // Whole numbers and floats: widening, ranges, bounds, and which floats are finite.
+#![tactic(auto)]
+
 ghost use Rattle.std.specs.Prelude.{◌≡◌};
 ghost use Rattle.numbers.specs.Floats.{finite, all_finite};
 ghost use Rattle.numbers.specs.Ranges.{within, all_below};

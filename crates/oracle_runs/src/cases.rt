@@ -4,7 +4,7 @@ use planning::Assembly;
 use recorded::{digit_at, read_head};
 
 // What planning is given, the point counts, and planning's refusal, or 0.
-#[derive(Drop)]
+#[derive(Clone, Copy)]
 pub struct Case {
     pub sizes: Sizes,
     pub assembly: Assembly,

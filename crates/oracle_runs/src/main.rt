@@ -1,6 +1,8 @@
 // Replays recorded answers of the Rust: each case of data/cases is a mesh with elements, batch size, integrand and lent numbers, and all that the published
 // Rust answered. Plans it, plays a whole entries run and a whole dense run, and compares every list, floats by their bits.
 // The command `oracle record` of oracle/ made the file; oracle/src/record.rs says what a line holds.
+#![tactic(auto)]
+
 mod cases;
 mod lent;
 mod runs;

@@ -1,4 +1,6 @@
 // The table of the 149 touching patterns as constant data, one number a pattern: its code.
+#![tactic(auto)]
+
 ghost use Rattle.std.specs.Prelude.{◌≡◌, ◌<◌};
 ghost use Rattle.cell_pairs.specs.Records.{pattern_count};
 ghost use Rattle.pattern_table.specs.Numbers.{code_at};

@@ -7,7 +7,7 @@ use function::{Elements, cell_colouring};
 use grid::{MOST_CELLS, MOST_EDGES, Sizes};
 
 // How many colours there are on the test and on the trial side.
-#[derive(Drop)]
+#[derive(Clone, Copy)]
 pub(crate) struct ColourCounts {
     pub(crate) test: u32,
     pub(crate) trial: u32,

@@ -1,4 +1,6 @@
 // Planning: from mesh, elements, batch size and integrand to the plan and its numbers.
+#![tactic(auto)]
+
 mod checks;
 mod colours;
 mod work_list;
@@ -21,7 +23,7 @@ use plans::{PlanNumbers, Planned};
 use work_list::write_work;
 
 // What is to be assembled on a mesh: the elements of both sides, the batch size and the integrand.
-#[derive(Drop)]
+#[derive(Clone, Copy)]
 pub struct Assembly {
     pub test: Elements,
     pub trial: Elements,

@@ -12,7 +12,7 @@ use plans::KindPairs;
 use touching_pairs::{TouchingEnds, write_touching};
 
 // How many pairs are distant, how many touching, and how many of these there are of each two kinds.
-#[derive(Drop)]
+#[derive(Clone, Copy)]
 pub(crate) struct PairCounts {
     pub(crate) distant: u32,
     pub(crate) touching: u32,

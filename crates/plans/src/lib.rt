@@ -1,10 +1,12 @@
 // Planning: what it hands back, and in specs/ what it takes, its checks, what it writes, and what holds of every planning that is accepted.
+#![tactic(auto)]
+
 use function::Elements;
 use integrands::Integrand;
 
 // The touching pairs per two kinds: the kind of the test cell, then that of the trial cell.
 #[repr(C)]
-#[derive(Drop)]
+#[derive(Clone, Copy)]
 pub struct KindPairs {
     pub triangle_triangle: u32,
     pub triangle_quad: u32,
@@ -15,7 +17,7 @@ pub struct KindPairs {
 // The numbers that planning hands back: the sizes C, V and E of the mesh, the cells per kind, S (touching pairs), N (distant pairs), the touching pairs per two
 // kinds, the DOF counts (rows for test, columns for trial), the elements and the integrand. (The plan itself is the kind list, the two DOF lists and the work list,
 // which are lent.)
-#[derive(Drop)]
+#[derive(Clone, Copy)]
 pub struct PlanNumbers {
     pub cells: u32,
     pub vertices: u32,
@@ -33,7 +35,7 @@ pub struct PlanNumbers {
 }
 
 // What planning answers: its numbers, or a refusal's number.
-#[derive(Drop)]
+#[derive(Clone, Copy)]
 pub enum Planned {
     Ready(PlanNumbers),
     Refused(u32),

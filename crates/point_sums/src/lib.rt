@@ -1,4 +1,6 @@
 // What a pair of points adds to each entry of a local matrix.
+#![tactic(auto)]
+
 mod one_term;
 mod two_terms;
 
@@ -6,7 +8,7 @@ pub use one_term::{add_curls, add_outer, add_outer_at};
 pub use two_terms::add_terms;
 
 // How a point value is weighed: value·w·v. One that is weighed once has 1 for v.
-#[derive(Drop)]
+#[derive(Clone, Copy)]
 pub struct Weight {
     pub w: f64,
     pub v: f64,

@@ -7,7 +7,7 @@ use grid::Sizes;
 use integrands::{Integrand, Term};
 use planning::Assembly;
 
-#[derive(Drop)]
+#[derive(Clone, Copy)]
 pub struct Head {
     pub sizes: Sizes,
     pub assembly: Assembly,

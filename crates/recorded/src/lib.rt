@@ -1,4 +1,6 @@
 // Files of recorded answers: words of 16 hexadecimal digits, a blank or a line end after each.
+#![tactic(auto)]
+
 mod heads;
 
 ghost use Rattle.std.specs.Prelude.{◌≡◌, ◌≤◌, length};

@@ -1,4 +1,6 @@
 // Plays a whole list of calls on one run, begun from planning. The calls are encoded as numbers, and their lent lists are parts of one pool.
+#![tactic(auto)]
+
 ghost use Rattle.std.specs.Prelude.{◌≡◌, [], ◌∷◌, ◌+◌, ◌*◌, ◌≤◌, ◌<◌, length};
 ghost use Rattle.std.proofs.lemmas.List.Edits.{sets};
 ghost use Rattle.grid.specs.Mesh.{mesh_with};
@@ -16,7 +18,7 @@ use planning::{Assembly, plan};
 use plans::{PlanNumbers, Planned};
 
 // What replay hands back: the run after the last call, or planning's refusal.
-#[derive(Drop)]
+#[derive(Clone, Copy)]
 pub enum Replayed {
     Played(Run),
     Refused(u32),

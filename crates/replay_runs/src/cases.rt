@@ -7,7 +7,7 @@ use planning::Assembly;
 use recorded::{digit_at, read_head, read_text};
 
 // What planning is given, whether the run is an entries run, and planning's refusal, or 0.
-#[derive(Drop)]
+#[derive(Clone, Copy)]
 pub struct Case {
     pub sizes: Sizes,
     pub assembly: Assembly,

@@ -1,4 +1,6 @@
 // A local matrix put into the dense matrix, and into entry lists. Its entry (i, j) stands at i + m·j, m test DOFs; the order is trial basis outer.
+#![tactic(auto)]
+
 ghost use Rattle.function.specs.Elements.{most_dim};
 ghost use Rattle.std.specs.Prelude.{◌≡◌, map, ℕ, ◌+◌, ◌*◌, ◌≤◌, ◌<◌, length};
 ghost use Rattle.std.proofs.lemmas.List.Edits.{sets};

@@ -1,4 +1,6 @@
 // The C interface: planning, the calls of a run and sparse rows, for a C or a Rust program to link. `host/include/seivalto.h` declares it.
+#![tactic(auto)]
+
 mod adds;
 mod sparse;
 

@@ -1,9 +1,11 @@
 // A view of one lent table at a point and a basis function: row values, as `Table` of the Rust's integrands.
+#![tactic(auto)]
+
 ghost use Rattle.std.specs.Prelude.{◌≡◌, ◌<◌};
 ghost use Rattle.table.specs.Rows.{table_row, Reach};
 
 // The table, its rows D and points P, and a point and a basis number.
-#[derive(Drop)]
+#[derive(Clone, Copy)]
 pub struct Table<'a> {
     pub table: &'a [f64],
     pub rows: usize,

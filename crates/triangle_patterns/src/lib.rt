@@ -1,5 +1,7 @@
 // Two triangles that touch: their pattern, by the 27 cases of one and of two shared vertices, and check 7 of them. They are read from rows, whose first three
 // numbers are the vertices.
+#![tactic(auto)]
+
 ghost use Rattle.std.specs.Prelude.{◌≡◌, true, ℕ, ◌+◌, ◌*◌, ◌≤◌, ◌<◌, length};
 ghost use Rattle.grid.specs.Cells.{distinct};
 ghost use Rattle.grid.specs.Rows.{entity};

@@ -1,5 +1,7 @@
 // Reads one job from a file, as standard input, and prints its work list, or `refused n`. No more of the input is read than the answer needs:
 // the first 7 bytes say how long a job is, and one byte more than that is read, to see that it is not longer.
+#![tactic(auto)]
+
 ghost use Rattle.std.specs.Prelude.{◌≡◌, ◌+◌, ◌*◌, ◌≤◌, min, length, take};
 ghost use Rattle.job.specs.Job.{most_worklist_cells};
 ghost use Rattle.job.specs.Head.{read_head, Says, size_refusal};
@@ -16,7 +18,7 @@ use worklist_text::{MOST_TEXT, refused_text, worklist_text};
 const MOST_BYTES: usize = 20 + 12 * (MOST_WORKLIST_CELLS as usize);
 
 // How many bytes came; how many of them, the first, stand in the list that they were read into; and how long the text is.
-#[derive(Drop)]
+#[derive(Clone, Copy)]
 struct Answered {
     came: usize,
     kept: usize,

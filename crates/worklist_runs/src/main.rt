@@ -1,5 +1,7 @@
 // The program `worklist` on the jobs of jobs/, each a file of data/ that tools/make-job made from its text: the paper's, each refusal, jobs cut short and
 // longer, and ones too large. Prints the name of the job, then what `worklist` prints.
+#![tactic(auto)]
+
 use libc::STDOUT_FILENO;
 
 fn answer(name: &[u8]) {

@@ -1,0 +1,17 @@
+-- `function::colouring::mark_sharing` meets its contract. The invariant: the cells of the first p numbers of cell i are marked. Assumes nothing.
+use Prim.Native.Nat.{ℕ, ◌+◌, ◌-◌, ◌*◌, ◌<◌, ◌≤◌}
+use native.Mathlib.Omega.{arith}
+use mathlib.Core.Path.{◌≡◌, refl, ap, ◌∙◌}
+use mathlib.Core.List.{List}
+use lib.ListN.{length, get_or}
+use Rattle.grid.specs.Rows.{cell_in}
+use Rattle.grid.specs.RowsFacts.{cell_most, cell_entity}
+use Rattle.cells_by_key.specs.GroupsFacts.{entity_bounds, entity_part}
+use Rattle.function.specs.ColoursFacts.{Marked, sharing_to, sharing_start, sharing_more, sharing_done}
+use Rattle.function.proofs.colouring.mark_sharing.Given as goal
+
+abbrev pub invariant-loop-p : goal.invariant-loop-p
+invariant-loop-p l = (l.p ≤ l.p-end) × (l.p-end ≡ length l.cell) × (l.cell ≡ cell_in l.none l.rows l.i) × Marked l.i (sharing_to l.rows l.colours l.i l.p) l.initial.marks l.marks
+
+abbrev pub decreases-loop-p : goal.decreases-loop-p
+decreases-loop-p l = l.p-end - l.p

@@ -1,0 +1,17 @@
+-- `grid::checks::edges_right` meets its contract: the first call has tested the edge list's length and bound, which the second asks for. Assumes nothing.
+use mathlib.Core.Path.{sym, ◌∙◌}
+use Rattle.grid.specs.EdgeRule.{numbered, edges_right_by, edges_right_not}
+use borrow.Author.Rules.{rules}
+use Rattle.grid.proofs.checks.edges_right.Goals as goal
+
+pub edges_sized-requires : goal.edges_sized-requires
+edges_sized-requires c = c.requires.shaped.0.few
+
+pub keeps_edge_rule-requires : goal.keeps_edge_rule-requires
+keeps_edge_rule-requires c = record { shaped = c.requires.shaped; numbered = numbered c.requires.shaped.0 c.requires.shaped.1 _ _ (sym c.edges_sized.ensures ∙ c.if-edges_sized.true) }
+
+pub returns-then-edges_sized : goal.returns-then-edges_sized
+returns-then-edges_sized c = edges_right_by _ c.requires.shaped.0 c.requires.shaped.1 c.requires.kinds_len (sym c.edges_sized.ensures ∙ c.if-edges_sized.true) c.keeps_edge_rule.ensures
+
+pub returns-else-edges_sized : goal.returns-else-edges_sized
+returns-else-edges_sized c = edges_right_not _ c.requires.shaped.0 c.requires.shaped.1 c.requires.kinds_len (sym c.edges_sized.ensures ∙ c.if-edges_sized.false)

@@ -1,0 +1,21 @@
+-- `grid::edge_rule::keeps_edge_rule` meets its contract: it lends a list for the keys of the edge places. Assumes nothing.
+use Prim.Native.Nat.{ℕ, ◌≤◌}
+use native.Mathlib.Omega.{arith}
+use mathlib.Core.Path.{◌≡◌, sym}
+use lib.ListN.{length, take, replicate, length-replicate}
+use lib.Seq.{length-take-le}
+use Rattle.grid.specs.CellsFacts.{shaped_few}
+use borrow.Author.Rules.{rules}
+use Rattle.grid.proofs.edge_rule.keeps_edge_rule.Goals as goal
+
+scratch : (n : ℕ) → n ≤ 8192 → length {A = ℕ} (take n (replicate 8192 0)) ≡ n
+scratch n h = length-take-le n (replicate 8192 0) (omega (arith, length-replicate {A = ℕ} 8192 0))
+
+pub slice_bounds-places-end : goal.slice_bounds-places-end
+slice_bounds-places-end c = omega (arith, shaped_few c.requires.shaped.0)
+
+pub slice_bounds-agree_by-end : goal.slice_bounds-agree_by-end
+slice_bounds-agree_by-end c = sym (scratch _ (shaped_few c.requires.shaped.0))
+
+pub agree_by-requires : goal.agree_by-requires
+agree_by-requires c = record { shaped = c.requires.shaped; places_len = scratch _ (shaped_few c.requires.shaped.0); numbered = c.requires.numbered }

@@ -1,0 +1,19 @@
+-- See Invariants.antt. Assumes nothing.
+use Prim.Native.Nat.{◌-◌, ◌≤◌}
+use native.Mathlib.Omega.{arith}
+use mathlib.Core.Path.{◌≡◌, sym, ◌∙◌}
+use lib.ListN.{get_or}
+use lib.Dec.{eqb}
+use Rattle.lists.specs.Bounded.{all, all_none}
+use Rattle.grid.specs.KindsFacts.{quarters, quarters_more, quarters_all}
+use borrow.Author.Rules.{rules}
+use Rattle.grid.proofs.shape.quarters_are.Goals as goal
+
+pub loop-i-init : goal.loop-i-init
+loop-i-init c = (search rules, sym (all_none _))
+
+pub loop-i-preserved : goal.loop-i-preserved
+loop-i-preserved c = (search rules, quarters_more _ _ _ c.loop-i.invariant.1)
+
+pub returns : goal.returns
+returns c = let e : c.loop-i.i ≡ c.args.n = omega arith in rw e at c.loop-i.invariant.1 ∙ quarters_all _ _

@@ -1,0 +1,15 @@
+-- `grid::shape::quarters_are` meets its contract. The invariant: what is found of the cells passed. Assumes nothing.
+use Prim.Native.Nat.{◌-◌, ◌≤◌}
+use native.Mathlib.Omega.{arith}
+use mathlib.Core.Path.{◌≡◌, sym, ◌∙◌}
+use lib.ListN.{get_or}
+use lib.Dec.{eqb}
+use Rattle.lists.specs.Bounded.{all, all_none}
+use Rattle.grid.specs.KindsFacts.{quarters, quarters_more, quarters_all}
+use Rattle.grid.proofs.shape.quarters_are.Given as goal
+
+abbrev pub invariant-loop-i : goal.invariant-loop-i
+invariant-loop-i l = (l.i ≤ l.n) × (l.same ≡ all l.i (quarters (λ k. eqb (get_or l.kinds k 0) l.kind) l.n))
+
+abbrev pub decreases-loop-i : goal.decreases-loop-i
+decreases-loop-i l = l.n - l.i
