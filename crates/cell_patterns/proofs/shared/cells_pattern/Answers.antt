@@ -1,0 +1,14 @@
+-- `cell_patterns::shared::cells_pattern` meets its contract. Assumes nothing.
+use mathlib.Core.Path.{ap, ◌∙◌}
+use mathlib.Core.List.{List}
+use lib.ListN.{length}
+use Rattle.cell_pairs.specs.Matches.{Match}
+use Rattle.cell_pairs.specs.Table.{pattern, number_of}
+use borrow.Author.Rules.{rules}
+use Rattle.cell_patterns.proofs.shared.cells_pattern.Goals as goal
+
+pub number_of-requires : goal.number_of-requires
+number_of-requires c = record { le_n = (c.requires.0, c.requires.1, c.requires.2, c.requires.3, c.matches_of.ensures.1); small = c.matches_of.ensures.2 }
+
+pub returns : goal.returns
+returns c = let a = c.args in c.number_of.ensures ∙ ap (λ (ms : List Match). number_of (pattern (length a.test.now) (length a.trial.now) ms)) c.matches_of.ensures.0

@@ -1,0 +1,23 @@
+-- `distant_pairs::has_cells` meets its contract. Assumes nothing.
+use native.Mathlib.Omega.{arith}
+use lib.ListN.{length}
+use Rattle.distant_pairs.specs.Distant.{has_cells}
+use Rattle.distant_pairs.specs.Facts.{kind_first}
+use borrow.Author.Rules.{rules}
+use Rattle.distant_pairs.proofs.has_cells.Goals as goal
+
+pub overflow_mul-first : goal.overflow_mul-first
+overflow_mul-first c = omega (arith, kind_first c.args.kind (length c.args.ends.now) c.requires)
+
+pub start_of-requires : goal.start_of-requires
+start_of-requires c = omega (arith, kind_first c.args.kind (length c.args.ends.now) c.requires)
+
+pub overflow_add-first : goal.overflow_add-first
+overflow_add-first c = omega (arith, kind_first c.args.kind (length c.args.ends.now) c.requires)
+
+pub start_of-requires-2 : goal.start_of-requires-2
+start_of-requires-2 c = omega (arith, kind_first c.args.kind (length c.args.ends.now) c.requires)
+
+pub returns : goal.returns
+unfolding has_cells
+returns c = rw (c.start_of.ensures, c.start_of-2.ensures)

@@ -1,0 +1,12 @@
+-- `distant_pairs::has_one_of` meets its contract: each number of the row is compared with the four. Assumes nothing.
+use native.Mathlib.Nat.{add-zero}
+use Rattle.lists.specs.Bool.{◌or◌}
+use Rattle.lists.specs.Bounded.{some}
+use Rattle.grid.specs.Cells.{has, share}
+use Rattle.distant_pairs.specs.Distant.{has_one_of}
+use borrow.Author.Rules.{rules}
+use Rattle.distant_pairs.proofs.has_one_of.Goals as goal
+
+pub returns : goal.returns
+unfolding has_one_of share has some ◌or◌
+returns c = simp add-zero
