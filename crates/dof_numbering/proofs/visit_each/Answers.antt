@@ -1,0 +1,25 @@
+-- See Invariants.antt. Assumes nothing.
+use Prim.Native.Nat.{◌-◌}
+use native.Mathlib.Omega.{arith}
+use mathlib.Core.Path.{◌≡◌, refl, ◌∙◌}
+use lib.ListN.{length}
+use Rattle.dof_numbering.specs.Walk.{state, Visiting, visiting_none, visiting_room, visiting_turn, visiting_ends}
+use borrow.Author.Rules.{rules}
+use Rattle.dof_numbering.proofs.visit_each.Goals as goal
+
+pub loop-k-init : goal.loop-k-init
+loop-k-init c = (refl, refl, visiting_none _ _ _ _ c.requires.room)
+
+pub visit-reached-requires : goal.visit-reached-requires
+visit-reached-requires c = record { x_bound = c.requires.slots.below _ c.loop-k-test.true; room = visiting_room _ _ _ _ _ _ c.loop-k-test.true c.loop-k.invariant.2 }
+
+pub loop-k-preserved : goal.loop-k-preserved
+loop-k-preserved c =
+    (
+      c.visit-reached.auto.dofs ∙ c.loop-k.invariant.0,
+      c.visit-reached.auto.owners ∙ c.loop-k.invariant.1,
+      visiting_turn _ _ _ _ _ _ c.loop-k-test.true c.loop-k.invariant.2 _ c.visit-reached.ensures,
+    )
+
+pub returns : goal.returns
+returns c = visiting_ends _ _ _ _ _ _ (omega arith) c.loop-k.invariant.2

@@ -1,0 +1,23 @@
+-- See Invariants.antt. Assumes nothing.
+use Prim.Native.Nat.{◌≤◌, ◌-◌}
+use native.Mathlib.Omega.{arith}
+use mathlib.Core.Path.{◌≡◌, refl}
+use lib.ListN.{length, length-set}
+use lib.Seq.{sets}
+use Rattle.dof_numbering.specs.Numbering.{up_from}
+use Rattle.dof_numbering.specs.Walk.{numbers_step}
+use borrow.Author.Rules.{rules}
+use Rattle.dof_numbering.proofs.write_numbers.Goals as goal
+
+pub loop-i-init : goal.loop-i-init
+unfolding up_from
+loop-i-init c = (search rules, search rules, refl)
+
+pub loop-i-preserved : goal.loop-i-preserved
+loop-i-preserved c =
+    (search rules, simp length-set c.loop-i.invariant.1, numbers_step _ _ _ _ _ _ c.loop-i.invariant.2 c.wide.ensures)
+
+pub returns : goal.returns
+returns c =
+    let e : c.loop-i.i ≡ c.args.m = omega arith in
+    rw (← e) c.loop-i.invariant.2
