@@ -1,0 +1,12 @@
+-- `job::head::head_right` meets its contract: `&` of the tests is `_and_`. Assumes nothing.
+use mathlib.Core.Path.{◌∙◌}
+use Rattle.job.specs.HeadFacts.{short_head, long_head}
+use borrow.Author.Rules.{rules}
+use Rattle.job.proofs.head.head_right.Goals as goal
+
+pub returns-then-bytes-lt7 : goal.returns-then-bytes-lt7
+returns-then-bytes-lt7 c = short_head _ c.if-bytes-lt7.true
+
+pub returns : goal.returns
+returns c =
+    long_head _ _ _ _ c.if-bytes-lt7.false (c.wide-rest.ensures ∙ c.four_at.ensures) c.byte_at-version.ensures.0 (c.wide-cells.ensures ∙ c.two_at.ensures.0)

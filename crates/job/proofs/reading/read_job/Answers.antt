@@ -1,0 +1,36 @@
+-- `job::reading::read_job` meets its contract: a refusal writes nothing; where there is none, the numbers and the lists are those of the job.
+-- Assumes nothing.
+use native.Mathlib.Omega.{arith}
+use mathlib.Core.Path.{sym, ap, ◌∙◌}
+use Rattle.job.specs.declared.JobNumbers.{JobNumbers}
+use Rattle.job.specs.JobFacts.{passed_long, read_refused, read_whole}
+use borrow.Author.Rules.{rules}
+use Rattle.job.proofs.reading.read_job.Goals as goal
+
+pub returns-then-refused-ne0 : goal.returns-then-refused-ne0
+returns-then-refused-ne0 c =
+    let r = read_refused _ _ c.job_refusal-refused.ensures c.if-refused-ne0.true {vs = c.args.vertex_list.now} {es = c.args.edge_list.now} in
+    record { value = r.0; vertex_list_after = r.1.0; edge_list_after = r.1.1 }
+
+pub numbers_of-numbers-requires : goal.numbers_of-numbers-requires
+numbers_of-numbers-requires c = (passed_long _ _ (sym c.job_refusal-refused.ensures ∙ c.if-refused-ne0.false)).fields
+
+pub read_front-requires : goal.read_front-requires
+read_front-requires c =
+    let cells = c.wide-n.ensures ∙ ap (λ (n : JobNumbers). n.cells) c.numbers_of-numbers.ensures.0 in
+    let long = (passed_long _ _ (sym c.job_refusal-refused.ensures ∙ c.if-refused-ne0.false)).long in
+    omega (arith, cells, long)
+
+pub read_front-requires-2 : goal.read_front-requires-2
+read_front-requires-2 c =
+    let cells = c.wide-n.ensures ∙ ap (λ (n : JobNumbers). n.cells) c.numbers_of-numbers.ensures.0 in
+    let long = (passed_long _ _ (sym c.job_refusal-refused.ensures ∙ c.if-refused-ne0.false)).long in
+    omega (arith, cells, long)
+
+pub returns : goal.returns
+returns c =
+    let r =
+            read_whole _ _ (sym c.job_refusal-refused.ensures ∙ c.if-refused-ne0.false) c.numbers_of-numbers.ensures.0
+            (c.wide-n.ensures ∙ ap (λ (n : JobNumbers). n.cells) c.numbers_of-numbers.ensures.0)
+            c.args.vertex_list.now c.args.edge_list.now c.read_front.ensures c.read_front-2.ensures in
+    record { value = r.0; vertex_list_after = r.1.0; edge_list_after = r.1.1 }
