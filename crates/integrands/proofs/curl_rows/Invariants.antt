@@ -1,0 +1,17 @@
+-- `integrands::curl_rows` meets its contract: the invariant is that the elements passed are mapped. Assumes nothing.
+use mathlib.Core.Path.{◌≡◌, sym}
+use Prim.Native.Nat.{ℕ, ◌-◌, ◌≤◌}
+use native.Mathlib.Nat.{zero-add}
+use native.Mathlib.Omega.{arith}
+use lib.Ieee.{Float, nan}
+use Rattle.lists.specs.Maps.{Mapped, mapped_start, mapped_turn}
+use Rattle.integrands.specs.Values.{curl}
+use Rattle.table.specs.Rows.{table_row}
+use Rattle.integrands.specs.Columns.{table_reach}
+use Rattle.integrands.proofs.curl_rows.Given as goal
+
+abbrev pub invariant-loop-b : goal.invariant-loop-b
+invariant-loop-b l = (l.b ≤ l.dim) × Mapped nan 0 l.b (λ (k : ℕ) (x : Float). curl l.high l.low (table_row l.table l.rows l.points l.p k)) l.initial.out l.out
+
+abbrev pub decreases-loop-b : goal.decreases-loop-b
+decreases-loop-b l = l.dim - l.b
