@@ -1,0 +1,14 @@
+-- `scatter::write_rows` meets its contract. The invariant of its loop: the columns below j are written. Assumes nothing.
+use mathlib.Core.Path.{refl}
+use Prim.Native.Nat.{◌-◌}
+use native.Mathlib.Omega.{arith}
+use lib.ListN.{length}
+use Rattle.lists.specs.Writes.{Blocks, blocks_start, blocks_room, blocks_turn, blocks_done}
+use Rattle.scatter.specs.AddingFacts.{rows_places}
+use Rattle.scatter.proofs.write_rows.Given as goal
+
+abbrev pub invariant-loop-j : goal.invariant-loop-j
+invariant-loop-j l = Blocks (λ _. l.test_dofs) (length l.test_dofs) (length l.trial_dofs) l.initial.rows l.rows l.at l.j
+
+abbrev pub decreases-loop-j : goal.decreases-loop-j
+decreases-loop-j l = l.n - l.j
