@@ -1,0 +1,16 @@
+-- `lent_numbers::jdets_above_0` meets its contract: the invariant is that the answer is that of the points passed. Assumes nothing.
+use mathlib.Core.Path.{◌≡◌, sym}
+use Prim.Native.Nat.{◌*◌, ◌-◌, ◌≤◌}
+use native.Mathlib.Omega.{arith}
+use lib.Ieee as Ieee
+use Rattle.lists.specs.Bool.{◌and◌}
+use Rattle.lists.specs.Bounded.{all, all_none, all_next}
+use Rattle.numbers.specs.Floats.{0·0, ◌!◌}
+use Rattle.lent_numbers.specs.Lent.{jdets_above0}
+use Rattle.lent_numbers.proofs.jdets_above_0.Given as goal
+
+abbrev pub invariant-loop-p : goal.invariant-loop-p
+invariant-loop-p l = (l.p ≤ l.points) × (l.ok ≡ all l.p (λ k. Ieee.lt 0·0 (l.s ! (10 * k))))
+
+abbrev pub decreases-loop-p : goal.decreases-loop-p
+decreases-loop-p l = l.points - l.p
