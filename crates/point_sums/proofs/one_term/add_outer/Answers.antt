@@ -1,0 +1,38 @@
+-- See Invariants.antt. Assumes nothing.
+use mathlib.Core.Path.{refl, ◌≡◌, sym, ap, ap₂}
+use Prim.Native.Nat.{ℕ, ◌-◌, ◌≤◌}
+use native.Mathlib.Nat.{zero-add}
+use native.Mathlib.Omega.{arith}
+use lib.Ieee.{Float}
+use Rattle.lists.specs.Maps.{mapped_at}
+use Rattle.numbers.specs.Floats.{◌⊕◌, ◌⊗◌}
+use Rattle.integrands.specs.Parts.{factored}
+use Rattle.table.specs.Rows.{table_row}
+use Rattle.integrands.specs.Columns.{table_reach, Added, added_none, added_turn}
+use borrow.Author.Rules.{rules}
+use Rattle.point_sums.proofs.one_term.add_outer.Goals as goal
+
+pub scaled_rows-requires : goal.scaled_rows-requires
+scaled_rows-requires c = (refl, c.requires.1)
+
+pub loop-j-init : goal.loop-j-init
+loop-j-init c = (search rules, added_none c.requires.0)
+
+pub table_value-r-requires : goal.table_value-r-requires
+table_value-r-requires c = (table_reach c.requires.2 _ c.loop-j-test.true, search rules)
+
+pub outer_column-requires : goal.outer_column-requires
+outer_column-requires c = (c.loop-j.invariant.1.size, c.requires.1.few, omega (arith, c.loop-j-test.true, c.requires.2.few))
+
+pub loop-j-preserved : goal.loop-j-preserved
+loop-j-preserved c =
+    (
+      search rules,
+      added_turn c.loop-j.invariant.1 c.outer_column.ensures
+          (λ i x l. ap (λ (y : Float). x ⊕ y) (ap (λ (y : Float). factored c.args.term y ⊗ c.args.w ⊗ c.args.v) (ap₂ ◌⊗◌ (mapped_at c.scaled_rows.ensures i i l (sym (zero-add i))) c.table_value-r.ensures))),
+    )
+
+pub returns : goal.returns
+returns c =
+    let end : c.loop-j.j ≡ c.args.trial_dim = omega arith in
+    rw end at c.loop-j.invariant.1

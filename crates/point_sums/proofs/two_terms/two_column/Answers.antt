@@ -1,0 +1,86 @@
+-- See Invariants.antt. Assumes nothing.
+use mathlib.Core.Path.{◌≡◌, refl}
+use Prim.Native.Nat.{ℕ, ◌*◌, ◌-◌, ◌≤◌}
+use native.Mathlib.Omega.{arith}
+use lib.Ieee.{Float, nan}
+use Rattle.lists.specs.Maps.{Mapped, mapped_start, mapped_turn}
+use Rattle.numbers.specs.Floats.{◌⊕◌, ◌!◌}
+use Rattle.integrands.specs.Parts.{factored, from_sides}
+use Rattle.integrands.specs.Columns.{hundred_place}
+use Rattle.point_sums.specs.Weights.{weighed}
+use borrow.Author.Rules.{rules}
+use Rattle.point_sums.proofs.two_terms.two_column.Goals as goal
+
+pub loop-i-init : goal.loop-i-init
+loop-i-init c = (search rules, mapped_start _)
+
+pub offset_bounds-a0-i : goal.offset_bounds-a0-i
+offset_bounds-a0-i c = omega (arith, c.loop-i-test.true, c.requires.1)
+
+pub bounds-a0-i : goal.bounds-a0-i
+bounds-a0-i c = omega (arith, c.loop-i-test.true, c.requires.1)
+
+pub offset_bounds-a1-i : goal.offset_bounds-a1-i
+offset_bounds-a1-i c = omega (arith, c.loop-i-test.true, c.requires.1)
+
+pub bounds-a1-i : goal.bounds-a1-i
+bounds-a1-i c = omega (arith, c.loop-i-test.true, c.requires.1)
+
+pub offset_bounds-a2-i : goal.offset_bounds-a2-i
+offset_bounds-a2-i c = omega (arith, c.loop-i-test.true, c.requires.1)
+
+pub bounds-a2-i : goal.bounds-a2-i
+bounds-a2-i c = omega (arith, c.loop-i-test.true, c.requires.1)
+
+pub offset_bounds-e0-i : goal.offset_bounds-e0-i
+offset_bounds-e0-i c = omega (arith, c.loop-i-test.true, c.requires.1)
+
+pub bounds-e0-i : goal.bounds-e0-i
+bounds-e0-i c = omega (arith, c.loop-i-test.true, c.requires.1)
+
+pub offset_bounds-e1-i : goal.offset_bounds-e1-i
+offset_bounds-e1-i c = omega (arith, c.loop-i-test.true, c.requires.1)
+
+pub bounds-e1-i : goal.bounds-e1-i
+bounds-e1-i c = omega (arith, c.loop-i-test.true, c.requires.1)
+
+pub offset_bounds-e2-i : goal.offset_bounds-e2-i
+offset_bounds-e2-i c = omega (arith, c.loop-i-test.true, c.requires.1)
+
+pub bounds-e2-i : goal.bounds-e2-i
+bounds-e2-i c = omega (arith, c.loop-i-test.true, c.requires.1)
+
+pub overflow_mul-entries : goal.overflow_mul-entries
+overflow_mul-entries c = omega (arith, hundred_place c.args.dim c.loop-i.i c.args.j c.requires.1 c.loop-i-test.true c.requires.2)
+
+pub overflow_add-entries : goal.overflow_add-entries
+overflow_add-entries c = omega (arith, hundred_place c.args.dim c.loop-i.i c.args.j c.requires.1 c.loop-i-test.true c.requires.2)
+
+pub offset_bounds-entries-i : goal.offset_bounds-entries-i
+offset_bounds-entries-i c = omega (arith, hundred_place c.args.dim c.loop-i.i c.args.j c.requires.1 c.loop-i-test.true c.requires.2)
+
+pub bounds-entries-i : goal.bounds-entries-i
+bounds-entries-i c = omega (arith, hundred_place c.args.dim c.loop-i.i c.args.j c.requires.1 c.loop-i-test.true c.requires.2)
+
+pub overflow_mul-entries-in-loop-i : goal.overflow_mul-entries-in-loop-i
+overflow_mul-entries-in-loop-i c = omega (arith, hundred_place c.args.dim c.loop-i.i c.args.j c.requires.1 c.loop-i-test.true c.requires.2)
+
+pub overflow_add-entries-in-loop-i : goal.overflow_add-entries-in-loop-i
+overflow_add-entries-in-loop-i c = omega (arith, hundred_place c.args.dim c.loop-i.i c.args.j c.requires.1 c.loop-i-test.true c.requires.2)
+
+pub offset_bounds-entries-i-in-loop-i : goal.offset_bounds-entries-i-in-loop-i
+offset_bounds-entries-i-in-loop-i c = omega (arith, hundred_place c.args.dim c.loop-i.i c.args.j c.requires.1 c.loop-i-test.true c.requires.2)
+
+pub bounds-entries-i-in-loop-i : goal.bounds-entries-i-in-loop-i
+bounds-entries-i-in-loop-i c = omega (arith, hundred_place c.args.dim c.loop-i.i c.args.j c.requires.1 c.loop-i-test.true c.requires.2)
+
+pub loop-i-smaller : goal.loop-i-smaller
+loop-i-smaller c = omega (arith, c.loop-i-test.true)
+
+pub loop-i-preserved : goal.loop-i-preserved
+loop-i-preserved c = (omega (arith, c.loop-i-test.true), mapped_turn c.loop-i.invariant.1 (omega arith) (omega (arith, c.loop-i.invariant.1.same_length, c.requires.0, hundred_place c.args.dim c.loop-i.i c.args.j c.requires.1 c.loop-i-test.true c.requires.2)) (rw (c.evaluate-two.ensures, c.evaluate-one.ensures) refl))
+
+pub returns : goal.returns
+returns c =
+    let end : c.loop-i.i ≡ c.args.dim = omega arith in
+    rw end at c.loop-i.invariant.1
