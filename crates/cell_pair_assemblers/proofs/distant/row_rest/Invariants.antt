@@ -1,0 +1,17 @@
+-- `cell_pair_assemblers::distant::row_rest` meets its contract: the invariant is that the entries hold the sums of the trial points passed. Assumes nothing.
+use mathlib.Core.Logic.{⊎_elim}
+use mathlib.Core.Path.{◌≡◌}
+use Prim.Native.Nat.{ℕ, ◌-◌, ◌≤◌}
+use native.Mathlib.Omega.{arith}
+use Rattle.integrands.specs.Columns.{Held, held_as}
+use Rattle.lent_numbers.specs.Lent.{distant}
+use Rattle.cell_pair_assemblers.specs.Facts.{distant_sum, reaches, distant_geometry, distant_row_start, distant_added, distant_row_end}
+use Rattle.cell_pair_assemblers.proofs.distant.row_rest.Given as goal
+
+abbrev pub invariant-loop-r : goal.invariant-loop-r
+invariant-loop-r l =
+    (l.r ≤ l.trial_points)
+    × Held l.test_dim l.trial_dim l.entries (λ (i j : ℕ). distant_sum l.f (distant l.test_points l.trial_points l.test_weights l.trial_weights l.test_table l.trial_table l.kernel l.test_geometry l.trial_geometry) i j l.t l.r)
+
+abbrev pub decreases-loop-r : goal.decreases-loop-r
+decreases-loop-r l = l.trial_points - l.r

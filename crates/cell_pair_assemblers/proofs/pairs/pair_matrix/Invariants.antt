@@ -1,0 +1,16 @@
+-- `cell_pair_assemblers::pairs::pair_matrix` meets its contract: the invariant is that the entries hold the sums of the test points passed. Assumes nothing.
+use mathlib.Core.Path.{◌≡◌}
+use Prim.Native.Nat.{ℕ, ◌-◌, ◌≤◌}
+use native.Mathlib.Omega.{arith}
+use Rattle.integrands.specs.Columns.{Held}
+use Rattle.lent_numbers.specs.Lent.{distant}
+use Rattle.cell_pair_assemblers.specs.Pairs.{pair_rows, pair_begin, pair_few, pair_counts, pair_entries_lem}
+use Rattle.cell_pair_assemblers.proofs.pairs.pair_matrix.Given as goal
+
+abbrev pub invariant-loop-t : goal.invariant-loop-t
+invariant-loop-t l =
+    (l.t ≤ l.test_points)
+    × Held l.test_dim l.trial_dim l.entries (λ (i j : ℕ). pair_rows l.apart l.f (distant l.test_points l.trial_points l.test_weights l.trial_weights l.test_table l.trial_table l.kernel l.test_geometry l.trial_geometry) i j l.t)
+
+abbrev pub decreases-loop-t : goal.decreases-loop-t
+decreases-loop-t l = l.test_points - l.t
