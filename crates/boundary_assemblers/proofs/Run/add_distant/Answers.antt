@@ -1,0 +1,45 @@
+-- `boundary_assemblers::Run::add_distant` meets its contract: a refusal is answered as such, and nothing is written; where there is none, the local matrix is added. Assumes nothing.
+use native.Mathlib.Omega.{arith}
+use mathlib.Core.Path.{refl, sym, ◌∙◌}
+use Rattle.lists.specs.Bool.{◌and◌}
+use Rattle.lent_numbers.specs.Lent.{distant}
+use Rattle.lent_numbers.specs.Entries.{distant_entry}
+use Rattle.boundary_assemblers.specs.Forms.{run_of}
+use Rattle.lent_numbers.specs.Sizes.{distant_fits}
+use Rattle.runs.specs.Runs.{distant_refusal, add_distant, distant_matrix}
+use Rattle.boundary_assemblers.specs.RunFacts.{standing}
+use Rattle.boundary_assemblers.specs.AddFacts.{distant_behind, check_fails, check_passes, by_state, by_rest, by_none, sum_is}
+use borrow.Author.Rules.{rules}
+use Rattle.boundary_assemblers.proofs.Run.add_distant.Goals as goal
+
+pub returns-then-not-item-self : goal.returns-then-not-item-self
+unfolding add_distant distant_matrix distant_refusal ◌and◌
+returns-then-not-item-self c = record { result_value = (by_rest _ _ _ (distant_behind (run_of c.args.self) (distant c.args.test_points c.args.trial_points c.args.test_weights.now c.args.trial_weights.now c.args.test_table.now c.args.trial_table.now c.args.kernel.now c.args.test_geometry.now c.args.trial_geometry.now)) _ _ (sym c.in-Passed.is ∙ rw c.matrix_right-sized.ensures at c.state_checked.ensures) 23 (check_fails 23 _ _ c.if-not-item-self.taken) (λ z. omega arith)).0; matrix_after = (by_rest _ _ _ (distant_behind (run_of c.args.self) (distant c.args.test_points c.args.trial_points c.args.test_weights.now c.args.trial_weights.now c.args.test_table.now c.args.trial_table.now c.args.kernel.now c.args.test_geometry.now c.args.trial_geometry.now)) _ _ (sym c.in-Passed.is ∙ rw c.matrix_right-sized.ensures at c.state_checked.ensures) 23 (check_fails 23 _ _ c.if-not-item-self.taken) (λ z. omega arith)).1 }
+
+pub distant_refusal-v-requires : goal.distant_refusal-v-requires
+distant_refusal-v-requires c = let h = standing _ _ _ (sym c.in-Passed.is ∙ rw c.matrix_right-sized.ensures at c.state_checked.ensures) in (h.test.few, h.trial.few)
+
+pub returns-then-v-ne0 : goal.returns-then-v-ne0
+unfolding add_distant distant_matrix distant_refusal ◌and◌
+returns-then-v-ne0 c = record { result_value = (by_rest _ _ _ (distant_behind (run_of c.args.self) (distant c.args.test_points c.args.trial_points c.args.test_weights.now c.args.trial_weights.now c.args.test_table.now c.args.trial_table.now c.args.kernel.now c.args.test_geometry.now c.args.trial_geometry.now)) _ _ (sym c.in-Passed.is ∙ rw c.matrix_right-sized.ensures at c.state_checked.ensures) _ (check_passes 23 _ _ c.if-not-item-self.left c.distant_refusal-v.ensures) c.if-v-ne0.taken).0; matrix_after = (by_rest _ _ _ (distant_behind (run_of c.args.self) (distant c.args.test_points c.args.trial_points c.args.test_weights.now c.args.trial_weights.now c.args.test_table.now c.args.trial_table.now c.args.kernel.now c.args.test_geometry.now c.args.trial_geometry.now)) _ _ (sym c.in-Passed.is ∙ rw c.matrix_right-sized.ensures at c.state_checked.ensures) _ (check_passes 23 _ _ c.if-not-item-self.left c.distant_refusal-v.ensures) c.if-v-ne0.taken).1 }
+
+pub distant_matrix-requires : goal.distant_matrix-requires
+distant_matrix-requires c = let h = standing _ _ _ (sym c.in-Passed.is ∙ rw c.matrix_right-sized.ensures at c.state_checked.ensures) in (distant_fits _ _ _ _ h.ranges.integrand h.test.few h.trial.few (sym c.distant_refusal-v.ensures ∙ c.if-v-ne0.left), refl)
+
+pub add_matrix-requires : goal.add_matrix-requires
+add_matrix-requires c = standing _ _ _ (sym c.in-Passed.is ∙ rw c.matrix_right-sized.ensures at c.state_checked.ensures)
+
+pub advanced-requires : goal.advanced-requires
+advanced-requires c = let h = standing _ _ _ (sym c.in-Passed.is ∙ rw c.matrix_right-sized.ensures at c.state_checked.ensures) in omega (arith, h.below, h.ranges.all_pairs)
+
+pub returns-in-Refused : goal.returns-in-Refused
+unfolding add_distant distant_matrix distant_refusal
+returns-in-Refused c = record { result_value = (by_state _ _ _ (distant_behind (run_of c.args.self) (distant c.args.test_points c.args.trial_points c.args.test_weights.now c.args.trial_weights.now c.args.test_table.now c.args.trial_table.now c.args.kernel.now c.args.test_geometry.now c.args.trial_geometry.now)) _ _ (sym c.in-Refused.is ∙ rw c.matrix_right-sized.ensures at c.state_checked.ensures)).0; matrix_after = (by_state _ _ _ (distant_behind (run_of c.args.self) (distant c.args.test_points c.args.trial_points c.args.test_weights.now c.args.trial_weights.now c.args.test_table.now c.args.trial_table.now c.args.kernel.now c.args.test_geometry.now c.args.trial_geometry.now)) _ _ (sym c.in-Refused.is ∙ rw c.matrix_right-sized.ensures at c.state_checked.ensures)).1 }
+
+pub returns-else-v-ne0 : goal.returns-else-v-ne0
+unfolding add_distant distant_matrix distant_refusal ◌and◌
+returns-else-v-ne0 c =
+    let s = (sym c.in-Passed.is ∙ rw c.matrix_right-sized.ensures at c.state_checked.ensures) in
+    record { result_value = (by_none _ _ _ (distant_behind (run_of c.args.self) (distant c.args.test_points c.args.trial_points c.args.test_weights.now c.args.trial_weights.now c.args.test_table.now c.args.trial_table.now c.args.kernel.now c.args.test_geometry.now c.args.trial_geometry.now)) _ _ s _ (check_passes 23 _ _ c.if-not-item-self.left c.distant_refusal-v.ensures) c.if-v-ne0.left c.advanced.ensures
+    (sum_is _ _ _ s _ (distant_entry _ _) c.distant_matrix.ensures c.add_matrix.ensures)).0; matrix_after = (by_none _ _ _ (distant_behind (run_of c.args.self) (distant c.args.test_points c.args.trial_points c.args.test_weights.now c.args.trial_weights.now c.args.test_table.now c.args.trial_table.now c.args.kernel.now c.args.test_geometry.now c.args.trial_geometry.now)) _ _ s _ (check_passes 23 _ _ c.if-not-item-self.left c.distant_refusal-v.ensures) c.if-v-ne0.left c.advanced.ensures
+    (sum_is _ _ _ s _ (distant_entry _ _) c.distant_matrix.ensures c.add_matrix.ensures)).1 }

@@ -1,0 +1,11 @@
+-- `planning::checks::rows_right` meets its contract. Assumes nothing.
+use mathlib.Core.Path.{◌∙◌}
+use Rattle.planning.specs.Facts.{patterns_needs, patterns_are}
+use borrow.Author.Rules.{rules}
+use Rattle.planning.proofs.checks.rows_right.Goals as goal
+
+pub patterns_right-requires : goal.patterns_right-requires
+patterns_right-requires c = rw (c.wide-2.ensures, c.wide.ensures) (patterns_needs c.requires.0 c.write_rows.ensures)
+
+pub returns : goal.returns
+returns c = rw (c.wide-2.ensures, c.wide.ensures) at c.patterns_right.ensures ∙ patterns_are c.requires.0 c.write_rows.ensures
