@@ -36,12 +36,11 @@ returns-then-p-cells c =
     (passed c.ranges_right.ensures c.if-not-ranges_right.false-raw also passed c.counts_right.ensures c.if-not-counts_right.false-raw also and_left _ _ (passed c.plan_right.ensures c.if-not-plan_right.false-raw) also and_right _ _ (passed c.plan_right.ensures c.if-not-plan_right.false-raw) also not-false _ c.if-not-sized.false-raw also end)
     (sym c.wide-p.ensures ∙ c.if-p-cells.true ∙ ap (λ (n : ℕ). n * n) c.wide-cells.ensures)
 
-record-at-requires c κs =
-    rw c.before.wide2.ensures
-    (record_fits (run_of c.before.before.before.before.before.before.before.before.before.before.before.before.before.before.before.args.self) _ (passed c.before.before.before.before.before.before.before.before.counts_right_holds.ensures c.before.before.before.before.before.before.before.if2.false) (and_right _ _ (passed c.before.before.before.before.before.before.plan_right_holds.ensures c.before.before.before.before.before.if3.false))
-    (λ e. c.if5.false (c.before.wide2.ensures ∙ e ∙ sym (ap (λ (n : ℕ). n * n) c.before.before.wide.ensures))))
-
-record-known-requires c κs = search rules
+pub record_at-record-requires : goal.record_at-record-requires
+record_at-record-requires c =
+    rw c.wide-p.ensures
+    (record_fits (run_of c.args.self) _ (passed c.counts_right.ensures c.if-not-counts_right.false-raw) (and_right _ _ (passed c.plan_right.ensures c.if-not-plan_right.false-raw))
+    (λ e. c.if-p-cells.false (c.wide-p.ensures ∙ e ∙ sym (ap (λ (n : ℕ). n * n) c.wide-cells.ensures))))
 
 pub returns-then-not-record_known : goal.returns-then-not-record_known
 returns-then-not-record_known c =
