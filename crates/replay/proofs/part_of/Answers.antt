@@ -1,10 +1,10 @@
 -- `replay::part_of` meets its contract: the two tests pick the case of `part_of`. Assumes nothing.
-use mathlib.Core.Logic.{⊎_elim}
 use borrow.Author.Tests.{le-leb, lt-leb}
 use Rattle.lists.specs.Bool.{◌and◌}
 use Rattle.replay.specs.Encoding.{part_of}
 use borrow.Author.Rules.{rules}
 use Rattle.replay.proofs.part_of.Goals as goal
+use Rattle.replay.proofs.part_of.Goals.{then-a-e+else-e-pool, else-a-e}
 
 pub returns-then-e-pool : goal.returns-then-e-pool
 unfolding part_of ◌and◌
@@ -12,4 +12,8 @@ returns-then-e-pool c = simp (le-leb _ _ c.if-a-e.true, le-leb _ _ c.if-e-pool.t
 
 pub returns : goal.returns
 unfolding part_of ◌and◌
-returns c = ?
+returns c =
+    elim c.if-a-e.branch [
+      then-a-e+else-e-pool w ↦ simp (le-leb _ _ w.if-a-e.true, lt-leb _ _ w.if-e-pool.false)
+      | else-a-e w ↦ simp (lt-leb _ _ w.if-a-e.false)
+    ]
