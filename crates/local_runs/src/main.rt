@@ -4,34 +4,41 @@
 
 ghost use Rattle.std.specs.Prelude.{◌≡◌, ◌≤◌, length};
 
+use full_reads::Source;
 use integrands::Integrand;
-use libc::STDOUT_FILENO;
 use recorded::{
     at_end, digit_at, finite_of, read_integrand, read_text, read_word, same_bits, two_at,
 };
+use std::fs::File;
+use std::io;
 
 // ---- lists
 
 // The next floats, as many as the two digits say that stand in the word of lengths from digit i on. Answers how many.
-fn read_list(fd: i32, list: &mut [f64; 256], lengths: &[u8; 17], i: usize) -> usize
+fn read_list(file: &mut Source<File>, list: &mut [f64; 256], lengths: &[u8; 17], i: usize) -> usize
     requires { (length list.old ≡ 256) × (i ≤ 14) }
     ensures { (result ≤ 255) × (length list.new ≡ 256) }
 {
     let n = two_at(lengths, i);
     for k in 0..n {
-        list[k] = finite_of(read_word(fd));
+        list[k] = finite_of(read_word(file));
     }
     n
 }
 
 // The same of words.
-fn read_words(fd: i32, words: &mut [u64; 256], lengths: &[u8; 17], i: usize) -> usize
+fn read_words(
+    file: &mut Source<File>,
+    words: &mut [u64; 256],
+    lengths: &[u8; 17],
+    i: usize,
+) -> usize
     requires { (length words.old ≡ 256) × (i ≤ 14) }
     ensures { (result ≤ 255) × (length words.new ≡ 256) }
 {
     let n = two_at(lengths, i);
     for k in 0..n {
-        words[k] = read_word(fd);
+        words[k] = read_word(file);
     }
     n
 }
@@ -217,10 +224,10 @@ fn agrees(
 }
 
 // Reads a case whole and runs it.
-fn case_agrees(fd: i32) -> bool {
-    let head = read_text(fd);
-    let lengths = read_text(fd);
-    let f = read_integrand(fd, &head, 1);
+fn case_agrees(file: &mut Source<File>) -> bool {
+    let head = read_text(file);
+    let lengths = read_text(file);
+    let f = read_integrand(file, &head, 1);
     let mut test_weights = [0.0; 256];
     let mut trial_weights = [0.0; 256];
     let mut test_table = [0.0; 256];
@@ -229,14 +236,14 @@ fn case_agrees(fd: i32) -> bool {
     let mut test_geometry = [0.0; 256];
     let mut trial_geometry = [0.0; 256];
     let mut words = [0u64; 256];
-    let n0 = read_list(fd, &mut test_weights, &lengths, 0);
-    let n1 = read_list(fd, &mut trial_weights, &lengths, 2);
-    let n2 = read_list(fd, &mut test_table, &lengths, 4);
-    let n3 = read_list(fd, &mut trial_table, &lengths, 6);
-    let n4 = read_list(fd, &mut kernel, &lengths, 8);
-    let n5 = read_list(fd, &mut test_geometry, &lengths, 10);
-    let n6 = read_list(fd, &mut trial_geometry, &lengths, 12);
-    let n7 = read_words(fd, &mut words, &lengths, 14);
+    let n0 = read_list(file, &mut test_weights, &lengths, 0);
+    let n1 = read_list(file, &mut trial_weights, &lengths, 2);
+    let n2 = read_list(file, &mut test_table, &lengths, 4);
+    let n3 = read_list(file, &mut trial_table, &lengths, 6);
+    let n4 = read_list(file, &mut kernel, &lengths, 8);
+    let n5 = read_list(file, &mut test_geometry, &lengths, 10);
+    let n6 = read_list(file, &mut trial_geometry, &lengths, 12);
+    let n7 = read_words(file, &mut words, &lengths, 14);
     agrees(
         &head,
         f,
@@ -260,69 +267,64 @@ struct Tally {
 }
 
 // Runs the next case. One that differs is named by its number, which is its line in the file, from 1.
-fn run_case(fd: i32, tally: Tally) -> Tally {
+fn run_case(rt: &HostRuntime, file: &mut Source<File>, tally: Tally) -> io::Result<Tally> {
     let number = std::num::wrapping_add_u64(tally.cases, 1);
-    if case_agrees(fd) {
-        return Tally {
+    if case_agrees(file) {
+        return Ok(Tally {
             cases: number,
             differ: tally.differ,
-        };
+        });
     }
-    io::write_all(STDOUT_FILENO, b"differs: case ");
-    io::print_decimal(STDOUT_FILENO, number);
-    io::write_all(STDOUT_FILENO, b"\n");
-    Tally {
+    println!(rt; "differs: case {number}")?;
+    Ok(Tally {
         cases: number,
         differ: std::num::wrapping_add_u64(tally.differ, 1),
-    }
+    })
 }
 
 // Runs the next n cases and prints their line.
-fn run_group(fd: i32, name: &[u8], n: u64, tally: Tally) -> Tally {
+fn run_group(
+    rt: &HostRuntime,
+    file: &mut Source<File>,
+    name: &str,
+    n: u64,
+    tally: Tally,
+) -> io::Result<Tally> {
     let mut sum = tally;
     for i in 0..n {
-        sum = run_case(fd, sum);
+        sum = run_case(rt, file, sum)?;
     }
-    io::write_all(STDOUT_FILENO, name);
-    io::write_all(STDOUT_FILENO, b": ");
-    io::print_decimal(STDOUT_FILENO, n);
-    io::write_all(STDOUT_FILENO, b" cases\n");
-    sum
+    println!(rt; "{name}: {n} cases")?;
+    Ok(sum)
 }
 
-fn run_all(fd: i32) -> Tally {
+fn run_all(rt: &HostRuntime, file: &mut Source<File>) -> io::Result<Tally> {
     let t = Tally {
         cases: 0,
         differ: 0,
     };
-    let t = run_group(fd, b"f1 to f4", 6, t);
-    let t = run_group(fd, b"touching, a bare term", 36, t);
-    let t = run_group(fd, b"touching, a term with a factor", 20, t);
-    let t = run_group(fd, b"touching, two terms", 25, t);
-    let t = run_group(fd, b"distant, a bare term", 36, t);
-    let t = run_group(fd, b"distant, a term with a factor", 20, t);
-    let t = run_group(fd, b"distant, two terms", 25, t);
-    let t = run_group(fd, b"subnormal numbers and signed zeros", 30, t);
-    let t = run_group(fd, b"values that overflow", 20, t);
-    let t = run_group(fd, b"sums that overflow", 14, t);
-    let t = run_group(fd, b"NaNs among large values", 10, t);
-    run_group(fd, b"infinity minus infinity", 12, t)
+    let t = run_group(rt, file, "F1 to F4", 6, t)?;
+    let t = run_group(rt, file, "touching, a bare term", 36, t)?;
+    let t = run_group(rt, file, "touching, a term with a factor", 20, t)?;
+    let t = run_group(rt, file, "touching, two terms", 25, t)?;
+    let t = run_group(rt, file, "distant, a bare term", 36, t)?;
+    let t = run_group(rt, file, "distant, a term with a factor", 20, t)?;
+    let t = run_group(rt, file, "distant, two terms", 25, t)?;
+    let t = run_group(rt, file, "subnormal numbers and signed zeros", 30, t)?;
+    let t = run_group(rt, file, "values that overflow", 20, t)?;
+    let t = run_group(rt, file, "sums that overflow", 14, t)?;
+    let t = run_group(rt, file, "NaNs among large values", 10, t)?;
+    run_group(rt, file, "infinity minus infinity", 12, t)
 }
 
-fn main() {
-    let path = b"cases";
-    let fd = os::open_read(path);
-    if fd < 0 {
-        os::fail(path);
-        return;
+fn main(rt: HostRuntime) -> io::Result<()> {
+    let mut file = Source::new(File::open(&rt, "cases")?);
+    let t = run_all(&rt, &mut file)?;
+    if !at_end(&mut file) {
+        println!(rt; "the file has more cases")?;
     }
-    let t = run_all(fd);
-    if !at_end(fd) {
-        io::write_all(STDOUT_FILENO, b"the file has more cases\n");
-    }
-    libc::close(fd);
-    io::print_decimal(STDOUT_FILENO, t.cases);
-    io::write_all(STDOUT_FILENO, b" cases, ");
-    io::print_decimal(STDOUT_FILENO, t.differ);
-    io::write_all(STDOUT_FILENO, b" differ\n");
+    file.finish()?;
+    let cases = t.cases;
+    let differ = t.differ;
+    println!(rt; "{cases} cases, {differ} differ")
 }

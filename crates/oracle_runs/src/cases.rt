@@ -1,7 +1,9 @@
 // The head of a case.
+use full_reads::Source;
 use grid::Sizes;
 use planning::Assembly;
 use recorded::{digit_at, read_head};
+use std::fs::File;
 
 // What planning is given, the point counts, and planning's refusal, or 0.
 #[derive(Clone, Copy)]
@@ -14,8 +16,8 @@ pub struct Case {
     pub refusal: u32,
 }
 
-pub fn read_case(fd: i32) -> Case {
-    let head = read_head(fd);
+pub fn read_case(file: &mut Source<File>) -> Case {
+    let head = read_head(file);
     let sizes = head.sizes;
     let assembly = head.assembly;
     let forms = head.forms;

@@ -10,14 +10,16 @@ mod runs;
 use crate::cases::{Case, read_case};
 use crate::lent::{float_room, front, room};
 use crate::runs::{entries_agree, matrix_agrees};
-use libc::STDOUT_FILENO;
+use full_reads::Source;
 use planning::plan;
 use plans::{PlanNumbers, Planned};
 use recorded::{at_end, kinds_of, read_floats, read_numbers, read_word, same_numbers};
+use std::fs::File;
+use std::io;
 
 // Whether an accepted planning and both its runs give what is recorded.
 fn ready_agrees(
-    fd: i32,
+    file: &mut Source<File>,
     n: PlanNumbers,
     case: Case,
     lengths: &[u32; 24],
@@ -35,22 +37,22 @@ fn ready_agrees(
     let test_dofs = front(test_dofs, lengths, 1);
     let trial_dofs = front(trial_dofs, lengths, 2);
     let work = front(work, lengths, 6);
-    let same = same_numbers(fd, &counts)
-        & same_numbers(fd, test_dofs)
-        & same_numbers(fd, trial_dofs)
-        & same_numbers(fd, front(test_colours, lengths, 3))
-        & same_numbers(fd, front(trial_colours, lengths, 3))
-        & same_numbers(fd, front(test_owners, lengths, 8))
-        & same_numbers(fd, front(trial_owners, lengths, 9))
-        & same_numbers(fd, work);
+    let same = same_numbers(file, &counts)
+        & same_numbers(file, test_dofs)
+        & same_numbers(file, trial_dofs)
+        & same_numbers(file, front(test_colours, lengths, 3))
+        & same_numbers(file, front(trial_colours, lengths, 3))
+        & same_numbers(file, front(test_owners, lengths, 8))
+        & same_numbers(file, front(trial_owners, lengths, 9))
+        & same_numbers(file, work);
     let mut places = [0u32; 4608];
     let mut rows = [0u32; 768];
     let mut columns = [0u32; 768];
     let mut values = [0.0; 768];
     let mut matrix = *floats;
-    read_numbers(fd, room(&mut places, lengths, 7));
+    read_numbers(file, room(&mut places, lengths, 7));
     let entries = entries_agree(
-        fd,
+        file,
         n,
         case,
         lengths,
@@ -65,7 +67,7 @@ fn ready_agrees(
         float_room(&mut values, 0, lengths, 11),
     );
     let dense = matrix_agrees(
-        fd,
+        file,
         n,
         case,
         lengths,
@@ -81,8 +83,8 @@ fn ready_agrees(
 }
 
 // Reads a case whole and replays it, with arrays that are long enough for 24 cells.
-fn case_agrees(fd: i32, floats: &[f64; 912]) -> bool {
-    let case = read_case(fd);
+fn case_agrees(file: &mut Source<File>, floats: &[f64; 912]) -> bool {
+    let case = read_case(file);
     let sizes = case.sizes;
     let mut lengths = [0u32; 24];
     let triangles = [3u8; 2048];
@@ -96,9 +98,9 @@ fn case_agrees(fd: i32, floats: &[f64; 912]) -> bool {
     let mut test_owners = [0u32; 720];
     let mut trial_owners = [0u32; 720];
     let mut work = [0u32; 1728];
-    read_numbers(fd, &mut lengths);
-    read_numbers(fd, room(&mut cell_vertices, &lengths, 0));
-    read_numbers(fd, room(&mut cell_edges, &lengths, 0));
+    read_numbers(file, &mut lengths);
+    read_numbers(file, room(&mut cell_vertices, &lengths, 0));
+    read_numbers(file, room(&mut cell_edges, &lengths, 0));
     let answer = plan(
         sizes,
         kinds,
@@ -116,7 +118,7 @@ fn case_agrees(fd: i32, floats: &[f64; 912]) -> bool {
     match answer {
         Planned::Refused(number) => number == case.refusal,
         Planned::Ready(n) => ready_agrees(
-            fd,
+            file,
             n,
             case,
             &lengths,
@@ -134,41 +136,37 @@ fn case_agrees(fd: i32, floats: &[f64; 912]) -> bool {
 }
 
 // Replays n cases and answers how many differ, each of which is named by its number, from 1.
-fn replay_cases(fd: i32, n: u64, floats: &[f64; 912]) -> u64 {
+fn replay_cases(
+    rt: &HostRuntime,
+    file: &mut Source<File>,
+    n: u64,
+    floats: &[f64; 912],
+) -> io::Result<u64> {
     let mut differ = 0;
     for i in 0..n {
-        if !case_agrees(fd, floats) {
-            io::write_all(STDOUT_FILENO, b"differs: case ");
-            io::print_decimal(STDOUT_FILENO, std::num::wrapping_add_u64(i, 1));
-            io::write_all(STDOUT_FILENO, b"\n");
+        if !case_agrees(file, floats) {
+            let number = std::num::wrapping_add_u64(i, 1);
+            println!(rt; "differs: case {number}")?;
             differ = std::num::wrapping_add_u64(differ, 1);
         }
     }
-    differ
+    Ok(differ)
 }
 
 // The file: how many cases, geometry, pool, then the cases.
-fn replay_file(fd: i32) {
+fn replay_file(rt: &HostRuntime, file: &mut Source<File>) -> io::Result<()> {
     let mut floats = [0.0; 912];
-    let n = read_word(fd);
-    read_floats(fd, &mut floats);
-    let differ = replay_cases(fd, n, &floats);
-    if !at_end(fd) {
-        io::write_all(STDOUT_FILENO, b"the file has more cases\n");
+    let n = read_word(file);
+    read_floats(file, &mut floats);
+    let differ = replay_cases(rt, file, n, &floats)?;
+    if !at_end(file) {
+        println!(rt; "the file has more cases")?;
     }
-    io::print_decimal(STDOUT_FILENO, n);
-    io::write_all(STDOUT_FILENO, b" recorded answers of the Rust, ");
-    io::print_decimal(STDOUT_FILENO, differ);
-    io::write_all(STDOUT_FILENO, b" differ\n");
+    file.finish()?;
+    println!(rt; "{n} recorded answers of the Rust, {differ} differ")
 }
 
-fn main() {
-    let path = b"cases";
-    let fd = os::open_read(path);
-    if fd < 0 {
-        os::fail(path);
-        return;
-    }
-    replay_file(fd);
-    libc::close(fd);
+fn main(rt: HostRuntime) -> io::Result<()> {
+    let mut file = Source::new(File::open(&rt, "cases")?);
+    replay_file(&rt, &mut file)
 }

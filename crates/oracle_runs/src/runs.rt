@@ -2,9 +2,11 @@
 use crate::cases::Case;
 use crate::lent::{length_at, lent};
 use boundary_assemblers::{Added, Looked, Run};
+use full_reads::Source;
 use numbers::wide;
 use plans::PlanNumbers;
 use recorded::{same_floats, same_numbers};
+use std::fs::File;
 
 // The run that a call hands back. A refused one has not moved, and that shows at the end.
 fn after(answer: Added) -> Run {
@@ -16,7 +18,7 @@ fn after(answer: Added) -> Run {
 
 // Whether an entries run writes the recorded entries.
 pub fn entries_agree(
-    fd: i32,
+    file: &mut Source<File>,
     n: PlanNumbers,
     case: Case,
     lengths: &[u32; 24],
@@ -49,9 +51,9 @@ pub fn entries_agree(
             values,
         ));
     }
-    let same_rows = same_numbers(fd, rows);
-    let same_columns = same_numbers(fd, columns);
-    let same_values = same_floats(fd, values);
+    let same_rows = same_numbers(file, rows);
+    let same_columns = same_numbers(file, columns);
+    let same_values = same_floats(file, values);
     same_rows & same_columns & same_values & (wide(run.position) == length_at(lengths, 7) / 8)
 }
 
@@ -110,7 +112,7 @@ fn add_next(
 
 // Whether a dense run gives the recorded matrix.
 pub fn matrix_agrees(
-    fd: i32,
+    file: &mut Source<File>,
     n: PlanNumbers,
     case: Case,
     lengths: &[u32; 24],
@@ -129,6 +131,6 @@ pub fn matrix_agrees(
             run, case, lengths, places, floats, kinds, test_dofs, trial_dofs, work, matrix,
         );
     }
-    let same = same_floats(fd, matrix);
+    let same = same_floats(file, matrix);
     same & (wide(run.position) == records)
 }

@@ -2,10 +2,12 @@
 ghost use Rattle.std.specs.Prelude.{◌≤◌};
 
 use crate::{digit_at, finite_of, four_at, read_text, read_word};
+use full_reads::Source;
 use function::{Element, Elements};
 use grid::Sizes;
 use integrands::{Integrand, Term};
 use planning::Assembly;
+use std::io::Read;
 
 #[derive(Clone, Copy)]
 pub struct Head {
@@ -41,11 +43,11 @@ fn term_at(forms: &[u8; 17], i: usize, factor: f64) -> Term
 }
 
 // The integrand: how many terms, then the form and kind of each, from digit i on. The two factors are the next words.
-pub fn read_integrand(fd: i32, forms: &[u8; 17], i: usize) -> Integrand
+pub fn read_integrand<R: Read>(file: &mut Source<R>, forms: &[u8; 17], i: usize) -> Integrand
     requires { i ≤ 11 }
 {
-    let first = finite_of(read_word(fd));
-    let second = finite_of(read_word(fd));
+    let first = finite_of(read_word(file));
+    let second = finite_of(read_word(file));
     Integrand {
         terms: digit_at(forms, i) as u32,
         first: term_at(forms, i + 1, first),
@@ -64,10 +66,10 @@ pub fn kinds_of(triangles: &[u8], cells: u32) -> &[u8] {
 }
 
 // Sizes, forms and factors.
-pub fn read_head(fd: i32) -> Head {
-    let numbers = read_text(fd);
-    let forms = read_text(fd);
-    let integrand = read_integrand(fd, &forms, 6);
+pub fn read_head<R: Read>(file: &mut Source<R>) -> Head {
+    let numbers = read_text(file);
+    let forms = read_text(file);
+    let integrand = read_integrand(file, &forms, 6);
     let sizes = Sizes {
         cells: four_at(&numbers, 0) as u32,
         vertices: four_at(&numbers, 4) as u32,

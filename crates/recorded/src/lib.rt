@@ -5,12 +5,14 @@ mod heads;
 
 ghost use Rattle.std.specs.Prelude.{◌≡◌, ◌≤◌, length};
 
+use full_reads::Source;
 pub use heads::{Head, kinds_of, read_head, read_integrand};
+use std::io::Read;
 
 // The next word, as text; zeros where the file has ended.
-pub fn read_text(fd: i32) -> [u8; 17] {
+pub fn read_text<R: Read>(file: &mut Source<R>) -> [u8; 17] {
     let mut text = [0u8; 17];
-    io::read_full(fd, &mut text);
+    file.read_full(&mut text);
     text
 }
 
@@ -51,8 +53,8 @@ pub fn four_at(text: &[u8; 17], i: usize) -> u64
         + digit_at(text, i + 3)
 }
 
-pub fn read_word(fd: i32) -> u64 {
-    let text = read_text(fd);
+pub fn read_word<R: Read>(file: &mut Source<R>) -> u64 {
+    let text = read_text(file);
     281474976710656 * four_at(&text, 0)
         + 4294967296 * four_at(&text, 4)
         + 65536 * four_at(&text, 8)
@@ -99,34 +101,34 @@ fn packed_at(text: &[u8; 17], i: usize) -> u32 {
 }
 
 // The next kinds, four numbers in a word: the last digit of each is the kind.
-pub fn read_kinds(fd: i32, kinds: &mut [u8]) {
+pub fn read_kinds<R: Read>(file: &mut Source<R>, kinds: &mut [u8]) {
     let mut text = [0u8; 17];
     for i in 0..kinds.len() {
         if i % 4 == 0 {
-            text = read_text(fd);
+            text = read_text(file);
         }
         kinds[i] = digit_at(&text, 4 * (i % 4) + 3) as u8;
     }
 }
 
 // The next numbers, four in a word.
-pub fn read_numbers(fd: i32, list: &mut [u32]) {
+pub fn read_numbers<R: Read>(file: &mut Source<R>, list: &mut [u32]) {
     let mut text = [0u8; 17];
     for i in 0..list.len() {
         if i % 4 == 0 {
-            text = read_text(fd);
+            text = read_text(file);
         }
         list[i] = packed_at(&text, i);
     }
 }
 
 // Whether the next numbers, four in a word, are those of the list.
-pub fn same_numbers(fd: i32, list: &[u32]) -> bool {
+pub fn same_numbers<R: Read>(file: &mut Source<R>, list: &[u32]) -> bool {
     let mut text = [0u8; 17];
     let mut same = true;
     for i in 0..list.len() {
         if i % 4 == 0 {
-            text = read_text(fd);
+            text = read_text(file);
         }
         if list[i] != packed_at(&text, i) {
             same = false;
@@ -136,17 +138,17 @@ pub fn same_numbers(fd: i32, list: &[u32]) -> bool {
 }
 
 // The next floats.
-pub fn read_floats(fd: i32, list: &mut [f64]) {
+pub fn read_floats<R: Read>(file: &mut Source<R>, list: &mut [f64]) {
     for i in 0..list.len() {
-        list[i] = finite_of(read_word(fd));
+        list[i] = finite_of(read_word(file));
     }
 }
 
 // Whether the next floats are those of the list, by their bits.
-pub fn same_floats(fd: i32, list: &[f64]) -> bool {
+pub fn same_floats<R: Read>(file: &mut Source<R>, list: &[f64]) -> bool {
     let mut same = true;
     for i in 0..list.len() {
-        if !same_bits(list[i], read_word(fd)) {
+        if !same_bits(list[i], read_word(file)) {
             same = false;
         }
     }
@@ -154,7 +156,6 @@ pub fn same_floats(fd: i32, list: &[f64]) -> bool {
 }
 
 // Whether the file has no byte left.
-pub fn at_end(fd: i32) -> bool {
-    let mut byte = [0u8; 1];
-    libc::read(fd, &mut byte) == 0
+pub fn at_end<R: Read>(file: &mut Source<R>) -> bool {
+    file.at_end()
 }

@@ -1,10 +1,12 @@
 // The head of a case.
 ghost use Rattle.std.specs.Prelude.{◌≤◌};
 
+use full_reads::Source;
 use function::{Element, Elements};
 use grid::Sizes;
 use planning::Assembly;
 use recorded::{digit_at, read_head, read_text};
+use std::fs::File;
 
 // What planning is given, whether the run is an entries run, and planning's refusal, or 0.
 #[derive(Clone, Copy)]
@@ -31,9 +33,9 @@ fn with_quads(elements: Elements, quads: &[u8; 17], i: usize) -> Elements
     }
 }
 
-pub fn read_case(fd: i32) -> Case {
-    let head = read_head(fd);
-    let quads = read_text(fd);
+pub fn read_case(file: &mut Source<File>) -> Case {
+    let head = read_head(file);
+    let quads = read_text(file);
     let sizes = head.sizes;
     let of_triangles = head.assembly;
     let test = of_triangles.test;

@@ -11,11 +11,13 @@ mod sparse;
 use crate::cases::{Case, read_case};
 use crate::lists::{call_room, float_room, kind_room, read_calls, room};
 use crate::sparse::rows_agree;
-use libc::STDOUT_FILENO;
+use full_reads::Source;
 use recorded::{
     at_end, read_floats, read_kinds, read_numbers, read_word, same_floats, same_numbers,
 };
 use replay::{Replayed, replay};
+use std::fs::File;
+use std::io;
 
 // ---- one case
 
@@ -40,51 +42,51 @@ fn sizes_of(answer: Replayed) -> [u32; 2] {
     }
 }
 
-fn print_number(n: u32) {
-    io::print_decimal(STDOUT_FILENO, n as u64);
+fn print_number(rt: &HostRuntime, n: u32) -> io::Result<()> {
+    print!(rt; "{n}")
 }
 
-fn print_count(n: u32, words: &[u8]) {
-    print_number(n);
-    io::write_all(STDOUT_FILENO, words);
+fn print_count(rt: &HostRuntime, n: u32, words: &str) -> io::Result<()> {
+    print!(rt; "{n}{words}")
 }
 
 // What gathering answers, where it is asked.
-fn print_gathered(lengths: &[u32; 20]) {
+fn print_gathered(rt: &HostRuntime, lengths: &[u32; 20]) -> io::Result<()> {
     if lengths[16] == 1 {
-        io::write_all(STDOUT_FILENO, b", ");
-        print_count(lengths[17], b" values kept of ");
-        print_count(lengths[10], b" entries");
+        print!(rt; ", ")?;
+        print_count(rt, lengths[17], " values kept of ")?;
+        print_count(rt, lengths[10], " entries")?;
     }
     if lengths[16] == 2 {
-        io::write_all(STDOUT_FILENO, b", gathering refuses ");
-        print_number(lengths[17]);
+        print!(rt; ", gathering refuses ")?;
+        print_number(rt, lengths[17])?;
     }
+    Ok(())
 }
 
 // The line of a case.
-fn print_case(case: Case, lengths: &[u32; 20], agrees: bool) {
+fn print_case(rt: &HostRuntime, case: Case, lengths: &[u32; 20], agrees: bool) -> io::Result<()> {
     let sizes = case.sizes;
-    print_count(sizes.cells, b" cells, ");
-    print_count(lengths[7] / 11, b" calls, ");
+    print_count(rt, sizes.cells, " cells, ")?;
+    print_count(rt, lengths[7] / 11, " calls, ")?;
     if case.refusal == 0 {
-        io::write_all(STDOUT_FILENO, b"position ");
-        print_number(lengths[12]);
+        print!(rt; "position ")?;
+        print_number(rt, lengths[12])?;
     } else {
-        io::write_all(STDOUT_FILENO, b"planning refuses ");
-        print_number(case.refusal);
+        print!(rt; "planning refuses ")?;
+        print_number(rt, case.refusal)?;
     }
-    print_gathered(lengths);
+    print_gathered(rt, lengths)?;
     if agrees {
-        io::write_all(STDOUT_FILENO, b": agree\n");
+        println!(rt; ": agree")
     } else {
-        io::write_all(STDOUT_FILENO, b": DIFFER\n");
+        println!(rt; ": DIFFER")
     }
 }
 
 // Reads a case whole and plays it, with arrays that are long enough for 8 cells and 160 calls.
-fn case_agrees(fd: i32) -> bool {
-    let case = read_case(fd);
+fn case_agrees(rt: &HostRuntime, file: &mut Source<File>) -> io::Result<bool> {
+    let case = read_case(file);
     let mut lengths = [0u32; 20];
     let mut kinds = [0u8; 9];
     let mut cell_vertices = [0u32; 32];
@@ -103,7 +105,7 @@ fn case_agrees(fd: i32) -> bool {
     let mut rows = [65535u32; 600];
     let mut columns = [65535u32; 600];
     let mut values = [0.5; 600];
-    read_numbers(fd, &mut lengths);
+    read_numbers(file, &mut lengths);
     let kinds = kind_room(&mut kinds, &lengths, 18);
     let cell_vertices = room(&mut cell_vertices, &lengths, 0);
     let cell_edges = room(&mut cell_edges, &lengths, 0);
@@ -121,12 +123,12 @@ fn case_agrees(fd: i32) -> bool {
     let rows = room(&mut rows, &lengths, 10);
     let columns = room(&mut columns, &lengths, 10);
     let values = float_room(&mut values, &lengths, 10);
-    read_kinds(fd, kinds);
-    read_numbers(fd, cell_vertices);
-    read_numbers(fd, cell_edges);
-    read_calls(fd, calls, &lengths);
-    read_floats(fd, pool);
-    read_floats(fd, matrix);
+    read_kinds(file, kinds);
+    read_numbers(file, cell_vertices);
+    read_numbers(file, cell_edges);
+    read_calls(file, calls, &lengths);
+    read_floats(file, pool);
+    read_floats(file, matrix);
     let answer = replay(
         case.sizes,
         kinds,
@@ -150,53 +152,46 @@ fn case_agrees(fd: i32) -> bool {
         answers,
     );
     let agrees = answer_agrees(answer, case, lengths[12])
-        & same_numbers(fd, answers)
-        & same_floats(fd, matrix)
-        & same_numbers(fd, rows)
-        & same_numbers(fd, columns)
-        & same_floats(fd, values)
-        & rows_agree(fd, &lengths, sizes_of(answer), rows, columns, values);
-    print_case(case, &lengths, agrees);
-    agrees
+        & same_numbers(file, answers)
+        & same_floats(file, matrix)
+        & same_numbers(file, rows)
+        & same_numbers(file, columns)
+        & same_floats(file, values)
+        & rows_agree(file, &lengths, sizes_of(answer), rows, columns, values);
+    print_case(rt, case, &lengths, agrees)?;
+    Ok(agrees)
 }
 
 // ---- a file
 
 // Plays n cases and answers how many differ.
-fn play_cases(fd: i32, n: u64) -> u64 {
+fn play_cases(rt: &HostRuntime, file: &mut Source<File>, n: u64) -> io::Result<u64> {
     let mut differ = 0;
     for i in 0..n {
-        if !case_agrees(fd) {
+        if !case_agrees(rt, file)? {
             differ = std::num::wrapping_add_u64(differ, 1);
         }
     }
-    differ
+    Ok(differ)
 }
 
 // How many cases, then the cases.
-fn play_file(fd: i32) {
-    let n = read_word(fd);
-    let differ = play_cases(fd, n);
-    if !at_end(fd) {
-        io::write_all(STDOUT_FILENO, b"the file has more cases\n");
+fn play_file(rt: &HostRuntime, file: &mut Source<File>) -> io::Result<()> {
+    let n = read_word(file);
+    let differ = play_cases(rt, file, n)?;
+    if !at_end(file) {
+        println!(rt; "the file has more cases")?;
     }
-    io::print_decimal(STDOUT_FILENO, n);
-    io::write_all(STDOUT_FILENO, b" lists of calls, ");
-    io::print_decimal(STDOUT_FILENO, differ);
-    io::write_all(STDOUT_FILENO, b" differ\n");
+    file.finish()?;
+    println!(rt; "{n} lists of calls, {differ} differ")
 }
 
-fn play(path: &[u8]) {
-    let fd = os::open_read(path);
-    if fd < 0 {
-        os::fail(path);
-        return;
-    }
-    play_file(fd);
-    libc::close(fd);
+fn play(rt: &HostRuntime, path: &str) -> io::Result<()> {
+    let mut file = Source::new(File::open(rt, path)?);
+    play_file(rt, &mut file)
 }
 
-fn main() {
-    play(b"dense");
-    play(b"entries");
+fn main(rt: HostRuntime) -> io::Result<()> {
+    play(&rt, "dense")?;
+    play(&rt, "entries")
 }

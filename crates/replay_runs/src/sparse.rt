@@ -1,8 +1,10 @@
 // The sparse rows of a case.
 use crate::lists::{float_room, read_starts, room, same_starts, start_room};
+use full_reads::Source;
 use recorded::{read_floats, read_numbers, same_floats, same_numbers};
 use sparse_lists::Gathered;
 use sparse_rows::sparse_rows;
+use std::fs::File;
 
 // Whether as many values are kept as must be, or the refusal is the one that must be.
 fn gathered_agrees(answer: Gathered, form: u32, number: u32) -> bool {
@@ -14,7 +16,7 @@ fn gathered_agrees(answer: Gathered, form: u32, number: u32) -> bool {
 
 // Reads the three lists, gathers the entries into them and compares; where gathering is not asked there is nothing to compare.
 pub fn rows_agree(
-    fd: i32,
+    file: &mut Source<File>,
     lengths: &[u32; 20],
     sizes: [u32; 2],
     rows: &[u32],
@@ -30,9 +32,9 @@ pub fn rows_agree(
     let starts = start_room(&mut starts, lengths, 13);
     let kept_columns = room(&mut kept_columns, lengths, 14);
     let kept_values = float_room(&mut kept_values, lengths, 15);
-    read_starts(fd, starts);
-    read_numbers(fd, kept_columns);
-    read_floats(fd, kept_values);
+    read_starts(file, starts);
+    read_numbers(file, kept_columns);
+    read_floats(file, kept_values);
     let answer = sparse_rows(
         rows,
         columns,
@@ -44,7 +46,7 @@ pub fn rows_agree(
         kept_values,
     );
     gathered_agrees(answer, lengths[16], lengths[17])
-        & same_starts(fd, starts)
-        & same_numbers(fd, kept_columns)
-        & same_floats(fd, kept_values)
+        & same_starts(file, starts)
+        & same_numbers(file, kept_columns)
+        & same_floats(file, kept_values)
 }

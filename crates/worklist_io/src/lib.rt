@@ -9,9 +9,10 @@ ghost use Rattle.worklist_text.specs.Text.{refused_line, worklist};
 ghost use Rattle.worklist_text.specs.PlannedText.{Printed};
 ghost use Rattle.worklist_io.specs.Answers.{most_bytes, Shown, Answers};
 
+use full_reads::Source;
 use job::{HeadRead, MOST_WORKLIST_CELLS, read_head, size_refusal};
-use libc::STDOUT_FILENO;
 use numbers::wide;
+use std::io::{self, Read};
 use worklist_text::{MOST_TEXT, refused_text, worklist_text};
 
 // The most bytes that are kept: one more than the largest job has.
@@ -32,21 +33,21 @@ fn least(a: usize, b: usize) -> usize
 }
 
 // Reads n bytes into the piece, as far as it has room and so many come.
-fn read_some(fd: i32, piece: &mut [u8], n: usize) -> usize
+fn read_some<R: Read>(file: &mut Source<R>, piece: &mut [u8], n: usize) -> usize
     ensures { result ≤ n }
 {
     let most = least(n, piece.len());
-    let got = io::read_full(fd, &mut piece[..most]);
+    let got = file.read_full(&mut piece[..most]);
     least(got, n)
 }
 
 // Reads n bytes, as far as so many come, a piece at a time: none is kept.
-fn skip(fd: i32, piece: &mut [u8], n: usize) -> usize
+fn skip<R: Read>(file: &mut Source<R>, piece: &mut [u8], n: usize) -> usize
     ensures { result ≤ n }
 {
     let mut count = 0;
     while count < n {
-        let got = read_some(fd, piece, n - count);
+        let got = read_some(file, piece, n - count);
         if got == 0 {
             return count;
         }
@@ -64,11 +65,16 @@ fn text_of(bytes: &[u8], n: usize, text: &mut [u8; MOST_TEXT]) -> usize
 }
 
 // The text of a job of at most 64 cells, whose first 7 bytes are read.
-fn small_text(fd: i32, bytes: &mut [u8], cells: u32, text: &mut [u8; MOST_TEXT]) -> Answered
+fn small_text<R: Read>(
+    file: &mut Source<R>,
+    bytes: &mut [u8],
+    cells: u32,
+    text: &mut [u8; MOST_TEXT],
+) -> Answered
     requires { (cells ≤ most_worklist_cells) × (most_bytes ≤ length bytes.old) × (Says (read_head (take 7 bytes.old)) cells) }
     ensures { Answers bytes.new text.new result }
 {
-    let came = 7 + read_some(fd, &mut bytes[7..], 13 + 12 * wide(cells));
+    let came = 7 + read_some(file, &mut bytes[7..], 13 + 12 * wide(cells));
     let shown = text_of(bytes, came, text);
     Answered {
         came: came,
@@ -90,23 +96,28 @@ fn refused_answer(n: u32, came: usize, kept: usize, text: &mut [u8; MOST_TEXT]) 
 }
 
 // The text of a job of more than 64 cells, whose first 7 bytes are read: the others are not kept.
-fn large_text(fd: i32, cells: u32, text: &mut [u8; MOST_TEXT]) -> Answered
+fn large_text<R: Read>(file: &mut Source<R>, cells: u32, text: &mut [u8; MOST_TEXT]) -> Answered
     ensures { (7 ≤ result.came) × (result.came ≤ 20 + 12 * cells) × (result.kept ≡ 7) × Shown text.new result.text (refused_line (size_refusal cells result.came)) }
 {
-    let came = 7 + skip(fd, text, 13 + 12 * wide(cells));
+    let came = 7 + skip(file, text, 13 + 12 * wide(cells));
     let refused = size_refusal(cells, came);
     refused_answer(refused, came, 7, text)
 }
 
 // The text of a job of so many cells, whose first 7 bytes are read.
-fn text_by_cells(fd: i32, bytes: &mut [u8], cells: u32, text: &mut [u8; MOST_TEXT]) -> Answered
+fn text_by_cells<R: Read>(
+    file: &mut Source<R>,
+    bytes: &mut [u8],
+    cells: u32,
+    text: &mut [u8; MOST_TEXT],
+) -> Answered
     requires { (most_bytes ≤ length bytes.old) × (Says (read_head (take 7 bytes.old)) cells) }
     ensures { Answers bytes.new text.new result }
 {
     if cells <= MOST_WORKLIST_CELLS {
-        return small_text(fd, bytes, cells, text);
+        return small_text(file, bytes, cells, text);
     }
-    large_text(fd, cells, text)
+    large_text(file, cells, text)
 }
 
 // What the first n bytes say.
@@ -118,38 +129,42 @@ fn head_of(bytes: &[u8], n: usize) -> HeadRead
 }
 
 // The text of what the file holds.
-fn answer(fd: i32, bytes: &mut [u8], text: &mut [u8; MOST_TEXT]) -> Answered
+fn answer<R: Read>(file: &mut Source<R>, bytes: &mut [u8], text: &mut [u8; MOST_TEXT]) -> Answered
     requires { most_bytes ≤ length bytes.old }
     ensures { Answers bytes.new text.new result }
 {
-    let got = read_some(fd, bytes, 7);
+    let got = read_some(file, bytes, 7);
     let head = head_of(bytes, got);
     match head {
-        HeadRead::Cells(cells) => text_by_cells(fd, bytes, cells, text),
+        HeadRead::Cells(cells) => text_by_cells(file, bytes, cells, text),
         HeadRead::Refused(n) => refused_answer(n, got, got, text),
     }
 }
 
-// Prints the first n bytes, by one call; where they are not all taken, says so on standard error.
-fn print(text: &[u8], n: usize)
+// Prints the first n bytes, by one call; where they are not all taken, answers the error.
+fn print<P: Print>(rt: &P, text: &[u8], n: usize) -> io::Result<()>
     requires { n ≤ length text.now }
 {
-    if !io::write_all(STDOUT_FILENO, &text[..n]) {
-        os::fail(b"worklist: standard output");
-    }
+    rt.write_all(&text[..n])
 }
 
-// Answers, and prints the answer.
-fn run(fd: i32, bytes: &mut [u8], text: &mut [u8; MOST_TEXT])
+// Answers, and prints the answer; prints nothing where a read failed.
+fn run<P: Print, R: Read>(
+    rt: &P,
+    file: &mut Source<R>,
+    bytes: &mut [u8],
+    text: &mut [u8; MOST_TEXT],
+) -> io::Result<()>
     requires { most_bytes ≤ length bytes.old }
 {
-    let answered = answer(fd, bytes, text);
-    print(text, answered.text);
+    let answered = answer(file, bytes, text);
+    file.finish()?;
+    print(rt, text, answered.text)
 }
 
 // The whole of the program `worklist`, on the job that an open file holds.
-pub fn answer_file(fd: i32) {
+pub fn answer_file<P: Print, R: Read>(rt: &P, file: &mut R) -> io::Result<()> {
     let mut bytes = [0u8; MOST_BYTES];
     let mut text = [0u8; MOST_TEXT];
-    run(fd, &mut bytes, &mut text);
+    run(rt, &mut Source::new(file), &mut bytes, &mut text)
 }

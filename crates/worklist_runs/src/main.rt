@@ -2,33 +2,28 @@
 // longer, and ones too large. Prints the name of the job, then what `worklist` prints.
 #![tactic(auto)]
 
-use libc::STDOUT_FILENO;
+use std::fs::File;
+use std::io;
 
-fn answer(name: &[u8]) {
-    let fd = os::open_read(name);
-    if fd < 0 {
-        os::fail(name);
-        return;
-    }
-    io::write_all(STDOUT_FILENO, name);
-    io::write_all(STDOUT_FILENO, b"\n");
-    worklist_io::answer_file(fd);
-    libc::close(fd);
+fn answer(rt: &HostRuntime, name: &str) -> io::Result<()> {
+    let mut file = File::open(rt, name)?;
+    println!(rt; "{name}")?;
+    worklist_io::answer_file(rt, &mut file)
 }
 
-fn main() {
-    answer(b"m4");
-    answer(b"m5");
-    answer(b"m7_turned");
-    answer(b"m7_twice");
-    answer(b"m8");
-    answer(b"refused_1");
-    answer(b"refused_2");
-    answer(b"refused_3");
-    answer(b"refused_4");
-    answer(b"short");
-    answer(b"longer");
-    answer(b"large");
-    answer(b"large_short");
-    answer(b"large_longer");
+fn main(rt: HostRuntime) -> io::Result<()> {
+    answer(&rt, "m4")?;
+    answer(&rt, "m5")?;
+    answer(&rt, "m7_turned")?;
+    answer(&rt, "m7_twice")?;
+    answer(&rt, "m8")?;
+    answer(&rt, "refused_1")?;
+    answer(&rt, "refused_2")?;
+    answer(&rt, "refused_3")?;
+    answer(&rt, "refused_4")?;
+    answer(&rt, "short")?;
+    answer(&rt, "longer")?;
+    answer(&rt, "large")?;
+    answer(&rt, "large_short")?;
+    answer(&rt, "large_longer")
 }
