@@ -1,8 +1,7 @@
 -- The elements and the function space (`Elements`), colours (`Colours`), with the examples of these (`Examples`). What is promised of the colours:
--- `ColoursPromises`. Laws: of what check 4 says (`ElementsFacts`), and for the proofs (`ColoursFacts`).
+-- `proofs/ColoursPromises.antt`. Laws: of what check 4 says (`ElementsFacts`), and for the proofs (`ColoursFacts`).
 pub mod Elements
 pub mod ElementsFacts
 pub mod Colours
 pub mod Examples
 pub mod ColoursFacts
-pub mod ColoursPromises

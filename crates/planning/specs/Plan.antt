@@ -10,7 +10,7 @@ use Rattle.function.specs.declared.Elements.{Elements}
 use Rattle.dof_numbering.specs.Numbering.{dof_list, dof_count, owner_list}
 use Rattle.dof_numbering.specs.Walk.{Sized}
 use Rattle.function.specs.Colours.{colour_list, colour_count, Colourable}
-use Rattle.function.specs.ColoursPromises.{count_at_most}
+use Rattle.function.proofs.ColoursPromises.{count_at_most}
 use Rattle.cell_pairs.specs.Records.{flat}
 use Rattle.cell_pairs.specs.Patterns.{patterns_right}
 use Rattle.cell_pairs.specs.WorkList.{most_batch, coloured, distant_kinds, distant_part, touching_pair, touching_pattern, touching_part, work_list, sharing_pairs, sharing_of, distant_pairs}

@@ -14,7 +14,7 @@ use Rattle.dof_numbering.specs.Numbering.{dof_list, dof_count}
 use Rattle.dof_numbering.specs.ByCell.{Filled, Matched}
 use Rattle.dof_numbering.specs.Promises.{dof_list_length, dof_count_le, dof_below}
 use Rattle.function.specs.Colours.{colour_list}
-use Rattle.function.specs.ColoursPromises.{colours_long}
+use Rattle.function.proofs.ColoursPromises.{colours_long}
 use Rattle.integrands.specs.Terms.{integrand_right}
 use Rattle.cell_pairs.specs.Patterns.{patterns_right}
 use Rattle.cell_pairs.specs.Counting.{Countable, countable}
