@@ -13,7 +13,7 @@ fn main() {
     println!("cargo:rerun-if-changed={}", library.display());
     if !library.is_file() {
         eprintln!("{} is not there.", library.display());
-        eprintln!("Run `rt staticlib seivalto` at the top of the repository, or set SEIVALTO_LIB_DIR to a folder that holds libseivalto.a.");
+        eprintln!("Run `tools/staticlib` at the top of the repository, or set SEIVALTO_LIB_DIR to a folder that holds libseivalto.a.");
         std::process::exit(1);
     }
     println!("cargo:rustc-link-search=native={}", folder.display());

@@ -3,7 +3,7 @@
  * Entry (i, j) of the matrix belongs to test DOF i and trial DOF j: it sums, over test points x and trial points y, weights * test function i at x *
  * kernel(x, y) * trial function j at y, in the form that the terms of the integrand say.
  *
- * The functions are those of the crate `seivalto` (crates/seivalto), in libseivalto.a, which `rt staticlib seivalto` writes for x86-64 Linux. It needs no
+ * The functions are those of the crate `seivalto` (crates/seivalto), in libseivalto.a, which `tools/staticlib` writes for x86-64 Linux. It needs no
  * other library: cc host.c libseivalto.a.
  *
  * The calls, in order:
