@@ -9,10 +9,10 @@ use Rattle.cell_pairs.specs.declared.WorkRecord.{WorkRecord}
 use Rattle.plans.specs.declared.KindPairs.{KindPairs}
 use Rattle.plans.specs.declared.PlanNumbers.{PlanNumbers}
 use Rattle.plans.specs.declared.Planned.{Planned}
-use Rattle.plans.specs.declared.Planned.TheVariants.{Ready as ready, Refused as not-planned}
+use Rattle.plans.specs.declared.Planned.TheVariants.{Ready as ready, Refused as not_planned}
 use Rattle.runs.specs.Runs.{Run, Reply, Answer, found, accepted, refused}
 use Rattle.sparse_lists.specs.declared.Gathered.{Gathered}
-use Rattle.sparse_lists.specs.declared.Gathered.TheVariants.{Kept as kept, Refused as not-gathered}
+use Rattle.sparse_lists.specs.declared.Gathered.TheVariants.{Kept as kept, Refused as not_gathered}
 use Rattle.c_forms.specs.declared.CTerm.{CTerm}
 use Rattle.c_forms.specs.declared.CIntegrand.{CIntegrand}
 use Rattle.c_forms.specs.declared.CNumbers.{CNumbers}
@@ -99,7 +99,7 @@ no_numbers test trial f =
 
 abbrev pub c_planned : Elements → Elements → CIntegrand → Planned → CPlanned
 c_planned test trial f (ready n) = record { refusal = 0; numbers = c_numbers test trial f n }
-c_planned test trial f (not-planned v) = record { refusal = v; numbers = no_numbers test trial f }
+c_planned test trial f (not_planned v) = record { refusal = v; numbers = no_numbers test trial f }
 
 -- a run that begins, with the numbers as the host gave them
 abbrev pub c_run : CNumbers → Run → CRun
@@ -136,4 +136,4 @@ c_added c g = record { refusal = answer_number g.answer; run = moved c g.run.pos
 
 abbrev pub c_gathered : Gathered → CGathered
 c_gathered (kept n) = record { refusal = 0; kept = n }
-c_gathered (not-gathered v) = record { refusal = v; kept = 0 }
+c_gathered (not_gathered v) = record { refusal = v; kept = 0 }

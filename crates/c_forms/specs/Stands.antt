@@ -8,7 +8,7 @@ use Rattle.grid.specs.Mesh.{Mesh}
 use Rattle.cell_pairs.specs.declared.WorkRecord.{WorkRecord}
 use Rattle.function.specs.declared.Elements.{Elements}
 use Rattle.plans.specs.declared.Planned.{Planned}
-use Rattle.plans.specs.declared.Planned.TheVariants.{Ready as ready, Refused as not-planned}
+use Rattle.plans.specs.declared.Planned.TheVariants.{Ready as ready, Refused as not_planned}
 use Rattle.plans.specs.Planning.{planning_of, plan_numbers}
 use Rattle.runs.specs.Runs.{Run, Plan, EntryLists, Reply, found, accepted, reply, begin, begin_entries, ranges_right, counts_right, kinds_fit, plan_right, state_checks, look_refusal, advance, distant_refusal, touching_refusal, entries_refusal}
 use Rattle.sparse_lists.specs.Sparse.{SparseLists, values_at, kept_of, sparse_refusal, gathered, sparse_rows}
@@ -35,7 +35,7 @@ pub record HandedBack (test trial : Elements) (f : CIntegrand) (n : CNumbers) : 
 
 pub plan_hands_back : (test trial : Elements) (f : CIntegrand) (p : Planned) → HandedBack test trial f (c_planned test trial f p).numbers
 plan_hands_back test trial f (ready n) = record { test_kept = refl; trial_kept = refl; integrand_kept = refl }
-plan_hands_back test trial f (not-planned v) = record { test_kept = refl; trial_kept = refl; integrand_kept = refl }
+plan_hands_back test trial f (not_planned v) = record { test_kept = refl; trial_kept = refl; integrand_kept = refl }
 
 pub begin_stands : (n : CNumbers) → run_of (c_run n (begin (numbers_of n))) ≡ begin (numbers_of n)
 unfolding begin

@@ -4,7 +4,7 @@ use Rattle.std.proofs.Common.{arith, ◌∙◌, ap, ap₂}
 use Rattle.std.proofs.Math.Path.{refl, sym}
 use Rattle.std.proofs.lemmas.List.{length-replicate, get_or-replicate}
 use Rattle.std.specs.Float.{nan}
-use Rattle.lists.specs.Fold.{upto, upto-none, upto-more}
+use Rattle.lists.specs.Fold.{upto, upto_none, upto_more}
 use Rattle.lists.specs.Places.{in_row, in_rectangle}
 use Rattle.numbers.specs.Floats.{0·0, 1·0, ◌⊕◌, ◌⊗◌, ◌!◌}
 use Rattle.numbers.specs.One.{product_one}
@@ -156,7 +156,7 @@ module _ (f : Integrand) where
 
   touching_start : (a : Touching) (i j : ℕ) → 0·0 ≡ touching_sum a i j 0
   unfolding touching_sum
-  touching_start a i j = sym (upto-none (λ (p : ℕ) (sum : Float). sum ⊕ touching_summand f a i j p) 0·0)
+  touching_start a i j = sym (upto_none (λ (p : ℕ) (sum : Float). sum ⊕ touching_summand f a i j p) 0·0)
 
   -- one point more, with its geometry, the width and the rows as the code has them
   touching_more : (a : Touching) (i j q K D : ℕ) (g h : Geometry) {x : Float} → g ≡ geometry_at a.test_geometry q → h ≡ geometry_at a.trial_geometry q
@@ -165,7 +165,7 @@ module _ (f : Integrand) where
       → touching_sum a i j q ⊕ x ⊗ (a.weights ! q ⊗ (g.jdet ⊗ h.jdet)) ≡ touching_sum a i j (q + 1)
   unfolding touching_sum touching_summand touching_value
   touching_more a i j q K D g h {x} eg eh ek ed e =
-      rw (e, eg, eh, ek, ed) (sym (upto-more (λ (p : ℕ) (sum : Float). sum ⊕ touching_summand f a i j p) q 0·0))
+      rw (e, eg, eh, ek, ed) (sym (upto_more (λ (p : ℕ) (sum : Float). sum ⊕ touching_summand f a i j p) q 0·0))
 
   -- weighed once: a product times 1 is that product
   pub touching_once : (a : Touching) (i j q K D : ℕ) (g h : Geometry) {x : Float} → g ≡ geometry_at a.test_geometry q → h ≡ geometry_at a.trial_geometry q
@@ -181,11 +181,11 @@ module _ (f : Integrand) where
 
   distant_start : (a : Distant) (i j : ℕ) → 0·0 ≡ distant_rows a i j 0
   unfolding distant_rows
-  distant_start a i j = sym (upto-none (λ (t : ℕ) (sum : Float). upto (λ (r : ℕ) (s : Float). s ⊕ distant_summand f a i j t r) a.trial_points sum) 0·0)
+  distant_start a i j = sym (upto_none (λ (t : ℕ) (sum : Float). upto (λ (r : ℕ) (s : Float). s ⊕ distant_summand f a i j t r) a.trial_points sum) 0·0)
 
   pub distant_row_start : (a : Distant) (i j t : ℕ) → distant_rows a i j t ≡ distant_sum a i j t 0
   unfolding distant_sum
-  distant_row_start a i j t = sym (upto-none (λ (r : ℕ) (s : Float). s ⊕ distant_summand f a i j t r) (distant_rows a i j t))
+  distant_row_start a i j t = sym (upto_none (λ (r : ℕ) (s : Float). s ⊕ distant_summand f a i j t r) (distant_rows a i j t))
 
   pub distant_more : (a : Distant) (i j t r K D : ℕ) (g h : Geometry) {x v : Float} → g ≡ geometry_at a.test_geometry t → h ≡ geometry_at a.trial_geometry r
       → K ≡ kernel_width f → D ≡ table_rows f → v ≡ a.test_weights ! t ⊗ g.jdet
@@ -193,7 +193,7 @@ module _ (f : Integrand) where
       → distant_sum a i j t r ⊕ x ⊗ (a.trial_weights ! r ⊗ h.jdet) ⊗ v ≡ distant_sum a i j t (r + 1)
   unfolding distant_sum distant_summand distant_value
   distant_more a i j t r K D g h {x} {v} eg eh ek ed ev e =
-      rw (e, ev, eg, eh, ek, ed) (sym (upto-more (λ (r : ℕ) (s : Float). s ⊕ distant_summand f a i j t r) r (distant_rows a i j t)))
+      rw (e, ev, eg, eh, ek, ed) (sym (upto_more (λ (r : ℕ) (s : Float). s ⊕ distant_summand f a i j t r) r (distant_rows a i j t)))
 
   -- for one term: what test point t and trial point r add
   pub distant_added : (a : Distant) {m n K D : ℕ} (t r : ℕ) {g : Geometry} {v : Float} {xs ys : List Float} → Alone f K D → g ≡ geometry_at a.test_geometry t → v ≡ a.test_weights ! t ⊗ g.jdet
@@ -205,7 +205,7 @@ module _ (f : Integrand) where
 
   pub distant_row_end : (a : Distant) (i j t : ℕ) → distant_sum a i j t a.trial_points ≡ distant_rows a i j (t + 1)
   unfolding distant_sum distant_rows
-  distant_row_end a i j t = sym (upto-more (λ (t : ℕ) (sum : Float). upto (λ (r : ℕ) (s : Float). s ⊕ distant_summand f a i j t r) a.trial_points sum) t 0·0)
+  distant_row_end a i j t = sym (upto_more (λ (t : ℕ) (sum : Float). upto (λ (r : ℕ) (s : Float). s ⊕ distant_summand f a i j t r) a.trial_points sum) t 0·0)
 
   pub distant_end : (a : Distant) (i j : ℕ) → distant_rows a i j a.test_points ≡ distant_entry f a i j
   unfolding distant_rows distant_entry

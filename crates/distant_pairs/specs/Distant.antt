@@ -4,7 +4,7 @@
 use Rattle.std.specs.Prelude.{◌≡◌, Bool, cond, ℕ, ◌+◌, ◌*◌, ◌/◌, length, eqb, ltb}
 use mathlib.Core.List.{List, [], ◌∷◌, flat_map}
 use Rattle.lists.specs.Range.{range, batch}
-use Rattle.grid.specs.Cells.{share as share-number}
+use Rattle.grid.specs.Cells.{share as share_number}
 use Rattle.grid.specs.Rows.{entity, row, share, fourth_or_first}
 use Rattle.cell_pairs.specs.declared.WorkRecord.{WorkRecord}
 use Rattle.cell_pairs.specs.WorkList.{batches, distant_pair, distant_batch, distant_colours}
@@ -19,7 +19,7 @@ pub record Corners (none : ℕ) (rows : List ℕ) (j a b c d : ℕ) : Type 0 whe
 
 -- one of a, b, c and d is in the row of cell i
 unfoldable pub has_one_of : List ℕ → ℕ → ℕ → ℕ → ℕ → ℕ → Bool
-has_one_of rows i a b c d = share-number (row rows i) (a ∷ b ∷ c ∷ d ∷ [])
+has_one_of rows i a b c d = share_number (row rows i) (a ∷ b ∷ c ∷ d ∷ [])
 
 module _ (none : ℕ) (rows : List ℕ) where
   -- one trial cell against a batch of test cells

@@ -12,7 +12,7 @@ use borrow.Author.Tests.{eq-eqb, ne_eqb, ltb-false}
 use Rattle.lists.specs.Bool.{◌and◌, same_test, and_no_left}
 use Rattle.lists.specs.Bounded.{lt_or_le, eq_or_ne}
 use Rattle.lists.specs.Range.{range, when, filter, batch, flat_map_nil, flat_map_below, flat_map_filter}
-use Rattle.grid.specs.Cells.{has as has-number, share as share-number}
+use Rattle.grid.specs.Cells.{has as has_number, share as share_number}
 use Rattle.grid.specs.CellsFacts.{Shaped, share_which, share_at, has_at, has_place}
 use Rattle.grid.specs.Rows.{rows_of, row, entity, cell_in, fourth_or_first, has, share}
 use Rattle.grid.specs.RowsFacts.{Padded, cell_three, cell_four, cell_entity, cell_in_row, cell_number, has_row, share_rows}
@@ -56,7 +56,7 @@ module _ {none : ℕ} {rows : List ℕ} {j a b c d : ℕ} (at : Corners none row
   long : 3 ≤ length (cell_in none rows j)
   long = ⊎_elim (λ w. omega (arith, w.0)) (λ w. omega (arith, w.0)) three_or_four
 
-  one_has : (x : ℕ) → has-number (a ∷ b ∷ c ∷ d ∷ []) x ≡ true → has none rows j x ≡ true
+  one_has : (x : ℕ) → has_number (a ∷ b ∷ c ∷ d ∷ []) x ≡ true → has none rows j x ≡ true
   one_has x h =
       let w = has_place (a ∷ b ∷ c ∷ d ∷ []) x h in
       place w.0 w.1 w.2
@@ -69,15 +69,15 @@ module _ {none : ℕ} {rows : List ℕ} {j a b c d : ℕ} (at : Corners none row
           ⊎_elim (λ w. at_place 0 x (omega (arith, long)) (sym at.first ∙ sym w.1 ∙ e)) (λ w. at_place 3 x (omega (arith, w.0)) (sym w.1 ∙ e)) three_or_four
       place (suc (suc (suc (suc p)))) l e = absurd (omega arith)
 
-  has_one : (x : ℕ) → has none rows j x ≡ true → has-number (a ∷ b ∷ c ∷ d ∷ []) x ≡ true
+  has_one : (x : ℕ) → has none rows j x ≡ true → has_number (a ∷ b ∷ c ∷ d ∷ []) x ≡ true
   has_one x h =
       let w = has_place (cell_in none rows j) x h in
       place w.0 w.1 (sym (cell_entity none rows j w.0 w.1) ∙ w.2)
     where
-      here : (p : ℕ) → p < 4 → get_or (a ∷ b ∷ c ∷ d ∷ []) p 0 ≡ x → has-number (a ∷ b ∷ c ∷ d ∷ []) x ≡ true
+      here : (p : ℕ) → p < 4 → get_or (a ∷ b ∷ c ∷ d ∷ []) p 0 ≡ x → has_number (a ∷ b ∷ c ∷ d ∷ []) x ≡ true
       here p = has_at (a ∷ b ∷ c ∷ d ∷ []) p x
 
-      place : (p : ℕ) → p < length (cell_in none rows j) → entity rows j p ≡ x → has-number (a ∷ b ∷ c ∷ d ∷ []) x ≡ true
+      place : (p : ℕ) → p < length (cell_in none rows j) → entity rows j p ≡ x → has_number (a ∷ b ∷ c ∷ d ∷ []) x ≡ true
       place zero l e = here 0 (omega arith) (at.first ∙ e)
       place (suc zero) l e = here 1 (omega arith) (at.second ∙ e)
       place (suc (suc zero)) l e = here 2 (omega arith) (at.third ∙ e)
@@ -90,7 +90,7 @@ module _ {none : ℕ} {rows : List ℕ} {j a b c d : ℕ} (at : Corners none row
     unfolding has_one_of
     shares = same_test (has_one_of rows i a b c d) (share none rows i j) there back
       where
-        there : share-number (row rows i) (a ∷ b ∷ c ∷ d ∷ []) ≡ true → share none rows i j ≡ true
+        there : share_number (row rows i) (a ∷ b ∷ c ∷ d ∷ []) ≡ true → share none rows i j ≡ true
         there h =
             let w = share_which (row rows i) (a ∷ b ∷ c ∷ d ∷ []) h in
             let theirs : has none rows j w.0 ≡ true = one_has w.0 w.2 in
@@ -98,7 +98,7 @@ module _ {none : ℕ} {rows : List ℕ} {j a b c d : ℕ} (at : Corners none row
             let other : w.0 ≡ none → ⊥ = λ e. cell_number pads j inside q.0 q.1 (sym (cell_entity none rows j q.0 q.1) ∙ q.2 ∙ e) in
             share_at (cell_in none rows i) (cell_in none rows j) w.0 (sym (has_row none rows i w.0 other) ∙ w.1) theirs
 
-        back : share none rows i j ≡ true → share-number (row rows i) (a ∷ b ∷ c ∷ d ∷ []) ≡ true
+        back : share none rows i j ≡ true → share_number (row rows i) (a ∷ b ∷ c ∷ d ∷ []) ≡ true
         back h =
             let w = share_which (cell_in none rows i) (cell_in none rows j) h in
             share_at (row rows i) (a ∷ b ∷ c ∷ d ∷ []) w.0 (cell_in_row none rows i w.0 w.1) (has_one w.0 w.2)

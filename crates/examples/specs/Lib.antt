@@ -1,7 +1,7 @@
 -- M1 to M8 and F1 to F4 of the paper, one list, and one theorem: the definitions yield what the paper says of each. Each row stands, with its input and
 -- what the paper says, in `specs/Examples.antt` of the crate of its layer, and antt computes it there. Assumes nothing.
 use Rattle.std.specs.Prelude.{List, [], ◌∷◌}
-use Rattle.lists.specs.Examples.{Example, Agree, no_more, ◌and-also◌}
+use Rattle.lists.specs.Examples.{Example, Agree, no_more, ◌and_also◌}
 use Rattle.function.specs.Examples.{m1_colours, m3_colours, m1_colours_holds, m3_colours_holds, by_edges, by_edges_holds, first_kind, first_kind_holds}
 use Rattle.dof_numbering.specs.Examples.{m1_dofs, m2_dofs, m2_owners, m2_count, m1_dofs_holds, m2_dofs_holds, m2_owners_holds, m2_count_holds, two_an_edge, two_owners, two_an_edge_holds, two_owners_holds, quad_beside, quad_owners, quad_inside, inside_owners, quad_beside_holds, quad_owners_holds, quad_inside_holds, inside_owners_holds}
 use Rattle.integrands.specs.Examples.{f3, f4, f3_holds, f4_holds, double, normals, factor, two, one, double_holds, normals_hold, factor_holds, two_holds, one_holds}
@@ -32,20 +32,20 @@ examples =
 pub theorem : Agree examples
 theorem =
     m1_colours_holds
-    and-also m1_dofs_holds
-    and-also m2_dofs_holds
-    and-also m3_colours_holds
-    and-also m4_holds
-    and-also m5_holds
-    and-also m6_holds
-    and-also m7_holds
-    and-also m7_work_holds
-    and-also m8_holds
-    and-also f1_holds
-    and-also f2_holds
-    and-also f3_holds
-    and-also f4_holds
-    and-also no_more
+    and_also m1_dofs_holds
+    and_also m2_dofs_holds
+    and_also m3_colours_holds
+    and_also m4_holds
+    and_also m5_holds
+    and_also m6_holds
+    and_also m7_holds
+    and_also m7_work_holds
+    and_also m8_holds
+    and_also f1_holds
+    and_also f2_holds
+    and_also f3_holds
+    and_also f4_holds
+    and_also no_more
 
 -- and some beside them, for what these leave untouched: M4, M5 and M7 as records, M accepted, with its rows and columns, M7 and M8 as text, jobs cut short,
 -- longer and too large, what reading a job answers and writes; owner records, a DOF count, colours by edges, two DOFs on an entity; numbers, owners, colours
@@ -68,56 +68,56 @@ more =
 pub more_hold : Agree more
 more_hold =
     m4_records_holds
-    and-also m5_records_holds
-    and-also m7_records_holds
-    and-also m_planned_holds
-    and-also m_sizes_holds
-    and-also m7_twice_text_holds
-    and-also refused_texts_hold
-    and-also m4_read_holds
-    and-also m4_lists_hold
-    and-also read_numbers_hold
-    and-also m2_owners_holds
-    and-also m2_count_holds
-    and-also f1_rounded_holds
-    and-also f2_rounded_holds
-    and-also by_edges_holds
-    and-also two_an_edge_holds
-    and-also two_owners_holds
-    and-also patterns_hold
-    and-also first_kind_holds
-    and-also quad_beside_holds
-    and-also quad_owners_holds
-    and-also quad_inside_holds
-    and-also inside_owners_holds
-    and-also mixed_records_holds
-    and-also quad_patterns_hold
-    and-also edge_shared_records_hold
-    and-also edge_shared_counts_hold
-    and-also diagonal_refused_holds
-    and-also double_holds
-    and-also normals_hold
-    and-also factor_holds
-    and-also two_holds
-    and-also one_holds
-    and-also two_points_hold
-    and-also four_pairs_hold
-    and-also point_order_holds
-    and-also added_holds
-    and-also rows_columns_hold
-    and-also values_hold
-    and-also work_lists_hold
-    and-also first_fault_holds
-    and-also quads_planned_hold
-    and-also kinds_refused_hold
-    and-also elements_refused_hold
-    and-also five_numbers_hold
-    and-also edge_shared_lists_hold
-    and-also first_look_holds
-    and-also looks_answered_hold
-    and-also adds_answered_hold
-    and-also mixed_looked_holds
-    and-also mixed_places_hold
-    and-also mixed_entered_holds
-    and-also absent_unread_holds
-    and-also no_more
+    and_also m5_records_holds
+    and_also m7_records_holds
+    and_also m_planned_holds
+    and_also m_sizes_holds
+    and_also m7_twice_text_holds
+    and_also refused_texts_hold
+    and_also m4_read_holds
+    and_also m4_lists_hold
+    and_also read_numbers_hold
+    and_also m2_owners_holds
+    and_also m2_count_holds
+    and_also f1_rounded_holds
+    and_also f2_rounded_holds
+    and_also by_edges_holds
+    and_also two_an_edge_holds
+    and_also two_owners_holds
+    and_also patterns_hold
+    and_also first_kind_holds
+    and_also quad_beside_holds
+    and_also quad_owners_holds
+    and_also quad_inside_holds
+    and_also inside_owners_holds
+    and_also mixed_records_holds
+    and_also quad_patterns_hold
+    and_also edge_shared_records_hold
+    and_also edge_shared_counts_hold
+    and_also diagonal_refused_holds
+    and_also double_holds
+    and_also normals_hold
+    and_also factor_holds
+    and_also two_holds
+    and_also one_holds
+    and_also two_points_hold
+    and_also four_pairs_hold
+    and_also point_order_holds
+    and_also added_holds
+    and_also rows_columns_hold
+    and_also values_hold
+    and_also work_lists_hold
+    and_also first_fault_holds
+    and_also quads_planned_hold
+    and_also kinds_refused_hold
+    and_also elements_refused_hold
+    and_also five_numbers_hold
+    and_also edge_shared_lists_hold
+    and_also first_look_holds
+    and_also looks_answered_hold
+    and_also adds_answered_hold
+    and_also mixed_looked_holds
+    and_also mixed_places_hold
+    and_also mixed_entered_holds
+    and_also absent_unread_holds
+    and_also no_more

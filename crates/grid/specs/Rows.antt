@@ -3,7 +3,7 @@
 use Rattle.std.specs.Prelude.{ℕ, ◌+◌, ◌*◌, Bool, cond, get_or, eqb}
 use mathlib.Core.List.{List, [], ◌∷◌, ◌++◌, flat_map}
 use Rattle.lists.specs.Range.{range, when}
-use Rattle.grid.specs.Cells.{part, own, has as has-number, share as share-number}
+use Rattle.grid.specs.Cells.{part, own, has as has_number, share as share_number}
 
 -- the row of cell i: its numbers, and `none` where these are three
 unfoldable pub row_of : ℕ → List ℕ → List ℕ → ℕ → List ℕ
@@ -30,7 +30,7 @@ fourth_or_first none rows i = cond (eqb (entity rows i 3) none) (entity rows i 0
 
 -- x is one of the numbers of cell i, and cells i and j share one
 abbrev pub has : ℕ → List ℕ → ℕ → ℕ → Bool
-has none rows i x = has-number (cell_in none rows i) x
+has none rows i x = has_number (cell_in none rows i) x
 
 abbrev pub share : ℕ → List ℕ → ℕ → ℕ → Bool
-share none rows i j = share-number (cell_in none rows i) (cell_in none rows j)
+share none rows i j = share_number (cell_in none rows i) (cell_in none rows j)

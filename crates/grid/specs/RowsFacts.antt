@@ -13,8 +13,8 @@ use Rattle.lists.specs.Bool.{◌and◌, ◌or◌, and_both}
 use Rattle.lists.specs.Bounded.{all, some, eq_or_ne, lt_or_le}
 use Rattle.lists.specs.Range.{range, when, flat_map_none, flat_map_range}
 use Rattle.lists.specs.Stores.{sets_append, sets_all}
-use Rattle.grid.specs.Cells.{before, part, own, share_in, distinct, has as has-number, share as share-number}
-use Rattle.grid.specs.CellsFacts.{Shaped, shaped_length, part_each, Begins, begins_first, begins_next, begins_part, length_cells, cells_at, has_place as number-place, has_at as number_at}
+use Rattle.grid.specs.Cells.{before, part, own, share_in, distinct, has as has_number, share as share_number}
+use Rattle.grid.specs.CellsFacts.{Shaped, shaped_length, part_each, Begins, begins_first, begins_next, begins_part, length_cells, cells_at, has_place as number_place, has_at as number_at}
 use Rattle.grid.specs.Rows.{row_of, rows_of, entity, row, cell_in, has, share}
 
 -- ---- any rows
@@ -43,15 +43,15 @@ row_at rows i (suc (suc (suc zero))) h = refl
 row_at rows i (suc (suc (suc (suc p)))) h = absurd (omega arith)
 
 -- x is at a place of row i, and what is at a place is one of the four
-pub has_place : (rows : List ℕ) (i x : ℕ) → has-number (row rows i) x ≡ true → (p : ℕ) × (p < 4) × (entity rows i p ≡ x)
-has_place rows i x h = let w = number-place (row rows i) x h in (w.0, w.1, sym (row_at rows i w.0 w.1) ∙ w.2)
+pub has_place : (rows : List ℕ) (i x : ℕ) → has_number (row rows i) x ≡ true → (p : ℕ) × (p < 4) × (entity rows i p ≡ x)
+has_place rows i x h = let w = number_place (row rows i) x h in (w.0, w.1, sym (row_at rows i w.0 w.1) ∙ w.2)
 
-pub has_at : (rows : List ℕ) (i p x : ℕ) → p < 4 → entity rows i p ≡ x → has-number (row rows i) x ≡ true
+pub has_at : (rows : List ℕ) (i p x : ℕ) → p < 4 → entity rows i p ≡ x → has_number (row rows i) x ≡ true
 has_at rows i p x h e = number_at (row rows i) p x h (row_at rows i p h ∙ e)
 
 -- a fourth number beside three
-beside : (a b c d x : ℕ) → (x ≡ d → ⊥) → has-number (a ∷ b ∷ c ∷ d ∷ []) x ≡ has-number (a ∷ b ∷ c ∷ []) x
-unfolding has-number some ◌or◌
+beside : (a b c d x : ℕ) → (x ≡ d → ⊥) → has_number (a ∷ b ∷ c ∷ d ∷ []) x ≡ has_number (a ∷ b ∷ c ∷ []) x
+unfolding has_number some ◌or◌
 beside a b c d x h = rw (ne_eqb d x (λ e. h (sym e))) (or_nothing _)
   where
     or_nothing : (b : Bool) → b or false ≡ b
@@ -100,16 +100,16 @@ module _ (none : ℕ) (rows : List ℕ) (i : ℕ) where
       go true (suc (suc (suc p))) h = absurd (omega arith)
       go false p h = row_at rows i p h
 
-  pub cell_in_row : (x : ℕ) → has none rows i x ≡ true → has-number (row rows i) x ≡ true
+  pub cell_in_row : (x : ℕ) → has none rows i x ≡ true → has_number (row rows i) x ≡ true
   cell_in_row x h =
-      let w = number-place (cell_in none rows i) x h in
+      let w = number_place (cell_in none rows i) x h in
       has_at rows i w.0 x (omega (arith, w.1, cell_most)) (sym (cell_entity w.0 w.1) ∙ w.2)
 
   -- a row has what its cell has
-  pub has_row : (x : ℕ) → (x ≡ none → ⊥) → has-number (row rows i) x ≡ has none rows i x
+  pub has_row : (x : ℕ) → (x ≡ none → ⊥) → has_number (row rows i) x ≡ has none rows i x
   has_row x h =
-      ⊎_elim (λ e. beside _ _ _ _ x (λ (q : x ≡ entity rows i 3). h (q ∙ e)) ∙ sym (ap (λ (xs : List ℕ). has-number xs x) (cell_three e)))
-      (λ e. sym (ap (λ (xs : List ℕ). has-number xs x) (cell_four e))) (eq_or_ne (entity rows i 3) none)
+      ⊎_elim (λ e. beside _ _ _ _ x (λ (q : x ≡ entity rows i 3). h (q ∙ e)) ∙ sym (ap (λ (xs : List ℕ). has_number xs x) (cell_three e)))
+      (λ e. sym (ap (λ (xs : List ℕ). has_number xs x) (cell_four e))) (eq_or_ne (entity rows i 3) none)
 
   -- a row of a cell with distinct numbers, none of them `none`, is distinct too
   pub row_distinct : ((p : ℕ) → p < 3 → entity rows i p < none) → distinct (cell_in none rows i) ≡ true → distinct (row rows i) ≡ true
@@ -229,7 +229,7 @@ module _ (none : ℕ) {ks l : List ℕ} (s : Shaped ks l) where
         (s.kinds i h)
 
     pub share_rows : (i j : ℕ) → i < C → j < C → share none rows i j ≡ share_in ks l i j
-    share_rows i j hi hj = ap₂ share-number (cell_rows i hi) (cell_rows j hj)
+    share_rows i j hi hj = ap₂ share_number (cell_rows i hi) (cell_rows j hj)
 
     -- the first three numbers of a row are those of its cell, and the fourth is one or `none`
     pub firsts_below : (i p : ℕ) → i < C → p < 3 → entity rows i p < none

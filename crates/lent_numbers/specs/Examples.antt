@@ -25,19 +25,19 @@ geometry jdet = jdet ∷ 0· ∷ 0· ∷ 0· ∷ 0· ∷ 0· ∷ 0· ∷ 0· ∷
 
 -- one point, t = r = 1: k0, weight, jdets
 abbrev touching : Float → Float → Float → Float → Touching
-touching k0 weight testJdet trialJdet =
+touching k0 weight test_jdet trial_jdet =
     record {
       points = 1;
       weights = weight ∷ [];
       test_table = 1· ∷ [];
       trial_table = 1· ∷ [];
       kernel = k0 ∷ [];
-      test_geometry = geometry testJdet;
-      trial_geometry = geometry trialJdet;
+      test_geometry = geometry test_jdet;
+      trial_geometry = geometry trial_jdet;
     }
 
 abbrev distant : Float → Float → Float → Float → Float → Distant
-distant k0 test_weight trial_weight testJdet trialJdet =
+distant k0 test_weight trial_weight test_jdet trial_jdet =
     record {
       test_points = 1;
       trial_points = 1;
@@ -46,8 +46,8 @@ distant k0 test_weight trial_weight testJdet trialJdet =
       test_table = 1· ∷ [];
       trial_table = 1· ∷ [];
       kernel = k0 ∷ [];
-      test_geometry = geometry testJdet;
-      trial_geometry = geometry trialJdet;
+      test_geometry = geometry test_jdet;
+      trial_geometry = geometry trial_jdet;
     }
 
 -- F1: touching, kind 0, one point, k0 = 0.25, t = r = 1, weight 0.5, jdets 2 and 4: 1.0

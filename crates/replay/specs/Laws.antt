@@ -5,12 +5,12 @@ use Rattle.std.proofs.Math.Path.{ap}
 use mathlib.Core.List.{List, [], ◌∷◌, ◌++◌, flat_map}
 use Rattle.std.proofs.Math.Seq.{sets}
 use borrow.Author.Tests.{leb-true, leb-false, eq-eqb, ne_eqb}
-use Rattle.lists.specs.Fold.{over, over-snoc, list_of}
+use Rattle.lists.specs.Fold.{over, over_snoc, list_of}
 use Rattle.lists.specs.Range.{flat_map_append, flat_map_one}
 use Rattle.lists.specs.Stores.{sets_append, sets_front}
 use Rattle.lent_numbers.specs.Lent.{touching, distant}
 use Rattle.plans.specs.declared.PlanNumbers.{PlanNumbers}
-use Rattle.plans.specs.declared.Planned.TheVariants.{Ready as ready, Refused as not-planned}
+use Rattle.plans.specs.declared.Planned.TheVariants.{Ready as ready, Refused as not_planned}
 use Rattle.plans.specs.Planning.{Planning, Lists, plan, plan_numbers, plan_answer, plan_refusal, plan_lists, unless_refused}
 use Rattle.plans.specs.Accepted.{ready_is}
 use Rattle.runs.specs.Runs.{Run, Plan, EntryLists, Reply, Answer, found, accepted, refused, begun, look, add_distant, add_touching, add_entries, distant_matrix, touching_matrix, entries_written}
@@ -19,7 +19,7 @@ use Rattle.runs.specs.Machine.{machine_of, machine_run}
 use Rattle.runs.specs.Beside.{embed}
 use Rattle.runs.specs.Listed.{plan_in, machine_beside}
 use Rattle.replay.specs.Encoding.{list_in, distant_in, touching_in, call_of, call_at, calls_of, call_count, answer_numbers, put_answers}
-use Rattle.replay.specs.Replay.{Outcome, played, refused as not-played, outcome, replayed, replayed_matrix, replayed_lists, replayed_answers}
+use Rattle.replay.specs.Replay.{Outcome, played, refused as not_played, outcome, replayed, replayed_matrix, replayed_lists, replayed_answers}
 
 -- ---- calls and answers, one more
 
@@ -43,7 +43,7 @@ length_calls calls pool n = length_list (call_at calls pool) n
 call_more : (l : Plan) (calls : List Call) (c : Call) (r : Run) (M : List Float) (e : EntryLists)
     → call_all l (calls ++ (c ∷ [])) r M e ≡ call l c (call_all l calls r M e)
 unfolding call_all
-call_more l calls c r M e = over-snoc (call l) calls c _
+call_more l calls c r M e = over_snoc (call l) calls c _
 
 -- one answer a call
 length_over : (l : Plan) (calls : List Call) (s : Progress) → length (over (call l) calls s).answers ≡ length s.answers + length calls
@@ -139,13 +139,13 @@ going_more l calls c s A₀ r M e A r' M' e' A' n len before step =
 
 -- ---- planning's answer
 
-refused_is : (v n : ℕ) (p : PlanNumbers) → plan_answer n p ≡ not-planned v → (n ≡ 0 → ⊥) × (n ≡ v)
+refused_is : (v n : ℕ) (p : PlanNumbers) → plan_answer n p ≡ not_planned v → (n ≡ 0 → ⊥) × (n ≡ v)
 refused_is v zero p e = absurd (let z : ◌≡◌ {A = ℕ} 0 1 = cc in omega arith)
 refused_is v (suc n) p e = (λ z. absurd (omega arith), cc)
 
-outcome_refused : (n v : ℕ) (r : Run) → (n ≡ 0 → ⊥) → n ≡ v → not-played v ≡ outcome n r
+outcome_refused : (n v : ℕ) (r : Run) → (n ≡ 0 → ⊥) → n ≡ v → not_played v ≡ outcome n r
 outcome_refused zero v r h e = absurd (h refl)
-outcome_refused (suc n) v r h e = ap not-played (sym e)
+outcome_refused (suc n) v r h e = ap not_played (sym e)
 
 refused_keeps : {A : Type 0} (n : ℕ) (new old : A) → (n ≡ 0 → ⊥) → old ≡ unless_refused n new old
 refused_keeps zero new old h = absurd (h refl)
@@ -161,8 +161,8 @@ pub record Finished (x : Planning) (l : Lists) (entries : Bool) (calls : List Ca
   pub answers : A' ≡ replayed_answers x l entries calls M e A
 
 -- planning refuses: nothing is played
-pub finished_refused : (x : Planning) (l : Lists) (entries : Bool) (calls : List Call) (M : List Float) (e : EntryLists) (A : List ℕ) (v : ℕ) → plan x l ≡ not-planned v
-    → Finished x l entries calls M e A (not-played v) M e A
+pub finished_refused : (x : Planning) (l : Lists) (entries : Bool) (calls : List Call) (M : List Float) (e : EntryLists) (A : List ℕ) (v : ℕ) → plan x l ≡ not_planned v
+    → Finished x l entries calls M e A (not_played v) M e A
 unfolding plan replayed replayed_matrix replayed_lists replayed_answers
 finished_refused x l entries calls M e A v p =
     let r = refused_is v (plan_refusal x l) (plan_numbers x) p in

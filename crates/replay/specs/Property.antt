@@ -8,7 +8,7 @@ use Rattle.runs.specs.Runs.{EntryLists}
 use Rattle.runs.specs.Calls.{Call, Progress}
 use Rattle.runs.specs.Beside.{embed}
 use Rattle.runs.specs.ThirdProperty.{ThirdProperty, property}
-use Rattle.runs.specs.EntriesProperty.{EntriesProperty, property as entries-of}
+use Rattle.runs.specs.EntriesProperty.{EntriesProperty, property as entries_of_lem}
 use Rattle.replay.specs.Encoding.{put_answers}
 use Rattle.replay.specs.Replay.{played, outcome, ended, replayed, replayed_matrix, replayed_lists, replayed_answers}
 
@@ -30,4 +30,4 @@ module _ (x : Planning) (l : Lists) (n : PlanNumbers) (e : plan x l ≡ ready n)
   replay_property = (_, leaves false, property x l n e calls M lists _ refl)
 
   pub replay_entries : (q : Progress) × Leaves true q × EntriesProperty x calls M lists q
-  replay_entries = (_, leaves true, entries-of x l n e calls M lists _ refl)
+  replay_entries = (_, leaves true, entries_of_lem x l n e calls M lists _ refl)

@@ -39,7 +39,7 @@ use Rattle.plans.specs.Accepted.{dofs_long, dofs_few, Accepted, counted, test_fi
 use Rattle.runs.specs.Runs.{Run, Plan, EntryLists, Answer, found, answered, begin, begin_entries, begun, record_of, test_dofs_of, trial_dofs_of, written, cell_dofs, is_touching, is_distant, ranges_right, counts_right, kinds_fit, plan_right, kinds_put, kind_dim, entries_on, entries_to, matrix_right, entries_right, pair_left, record_known, record_right, state_checks, look_refusal, distant_refusal, touching_refusal, entries_refusal, advance, look, add_distant, add_touching, add_entries, distant_matrix, touching_matrix, entries_written}
 use Rattle.runs.specs.CellDofs.{kind_dim_lem, cell_below}
 use Rattle.runs.specs.Calls.{Call, looks, adds_distant, adds_touching, adds_entries, Progress, reply_to, matrix_after, lists_after, call, call_all}
-use Rattle.runs.specs.Machine.{Machine, machine_along, State, record_no, entries_to as entriesUpTo, lists_sized, call_checks, add_pair, write_pair, call_refusal, machine_step, fresh, machine_run}
+use Rattle.runs.specs.Machine.{Machine, machine_along, State, record_no, entries_to as entries_up_to, lists_sized, call_checks, add_pair, write_pair, call_refusal, machine_step, fresh, machine_run}
 
 -- C·C
 abbrev pub pair_count : Planning → ℕ
@@ -197,8 +197,8 @@ module _ (x : Planning) (l : Lists) (ok : Accepted x l) (W : List WorkRecord) (a
   dim_read i h es = kind_dim_lem (plan_numbers x) x.mesh.kinds (kinds_fit_holds 0) i h es
 
   -- so the numbers say how many entries the first touching records have
-  same_entries : (q : ℕ) → entries_to (plan_numbers x) q ≡ entriesUpTo m q
-  unfolding plan_numbers machine_along entriesUpTo
+  same_entries : (q : ℕ) → entries_to (plan_numbers x) q ≡ entries_up_to m q
+  unfolding plan_numbers machine_along entries_up_to
   same_entries q =
       blocked_entries x.mesh _ (blocks_of x.mesh) (drop N W) along.blocked q
       ∙ total_each _ _ (take q (drop N W)) (all_in_places _ (take q (drop N W)) (rec 0 0 0) each)

@@ -10,7 +10,7 @@ use Rattle.std.proofs.Math.Seq.{length-sets}
 use Rattle.std.specs.Float.{nan}
 use Rattle.std.proofs.lemmas.Bool.{eqb-false}
 use Rattle.lists.specs.Range.{range, when, flat_map_range, flat_map_none}
-use Rattle.lists.specs.Fold.{upto, over, upto-keeps}
+use Rattle.lists.specs.Fold.{upto, over, upto_keeps}
 use Rattle.lists.specs.Refusals.{refusal, unless}
 use Rattle.lists.specs.Total.{count, total, gate}
 use Rattle.numbers.specs.Floats.{◌⊕◌}
@@ -59,7 +59,7 @@ steps_place : (F : ℕ → List Float → List Float) (g : ℕ → List Float) (
 unfolding upto
 steps_place F g e keep add zero A h = sym (ap (λ (l : List Float). plus_all l (get_or A e nan)) (flat_map_none g) ∙ plus_none _)
 steps_place F g e keep add (suc n) A h =
-    add n (upto F n A) (rw (upto-keeps length F keep n A) h)
+    add n (upto F n A) (rw (upto_keeps length F keep n A) h)
     ∙ ap (plus_all (g n)) (steps_place F g e keep add n A h)
     ∙ sym (plus_append (flat_map g (range n)) (g n) (get_or A e nan))
     ∙ ap (λ (l : List Float). plus_all l (get_or A e nan)) (sym (flat_map_range g n) ∙ ap (λ (k : ℕ). flat_map g (range k)) (add-one n))
@@ -69,7 +69,7 @@ local_place : (entry : ℕ → ℕ → Float) (rows : ℕ) (test_dofs trial_dofs
     → get_or (add_local entry rows test_dofs trial_dofs M) e nan ≡ plus_all (entries_at entry rows test_dofs trial_dofs e) (get_or M e nan)
 unfolding add_local entries_at
 local_place entry rows test_dofs trial_dofs e M h =
-    steps_place _ _ e (λ j A. upto-keeps length _ (λ i B. length_add_at B (get_or test_dofs i 0 + rows * get_or trial_dofs j 0) (entry i j)) (length test_dofs) A)
+    steps_place _ _ e (λ j A. upto_keeps length _ (λ i B. length_add_at B (get_or test_dofs i 0 + rows * get_or trial_dofs j 0) (entry i j)) (length test_dofs) A)
     (λ j A k.
     steps_place _ _ e (λ i B. length_add_at B (get_or test_dofs i 0 + rows * get_or trial_dofs j 0) (entry i j))
     (λ i B l. add_place B (get_or test_dofs i 0 + rows * get_or trial_dofs j 0) e (entry i j) l) (length test_dofs) A k)

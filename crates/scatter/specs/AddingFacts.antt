@@ -4,7 +4,7 @@ use Rattle.std.proofs.Common.{arith, sym, ap, ◌∙◌, length-set}
 use mathlib.Core.List.{List, [], ◌∷◌, flat_map, map}
 use Rattle.std.proofs.lemmas.List.{length-map}
 use Rattle.lists.specs.Range.{range, length_range, flat_map_ext, flat_map_below, flat_map_places, flat_map_map, map_below, length_blocks}
-use Rattle.lists.specs.Fold.{upto, upto-keeps, upto-ext, Folded, folded_turn}
+use Rattle.lists.specs.Fold.{upto, upto_keeps, upto_ext, Folded, folded_turn}
 use Rattle.lists.specs.Places.{in_row}
 use Rattle.function.specs.Elements.{most_dim}
 use Rattle.scatter.specs.Adding.{add_at, add_local, local_rows, local_columns, local_values}
@@ -24,7 +24,7 @@ pub length_add_local : (entry : ℕ → ℕ → Float) (rows : ℕ) (test_dofs t
     → length (add_local entry rows test_dofs trial_dofs M) ≡ length M
 unfolding add_local
 length_add_local entry rows test_dofs trial_dofs M =
-    upto-keeps length _ (λ j A. upto-keeps length _ (λ i B. length_add_at B _ _) (length test_dofs) A) (length trial_dofs) M
+    upto_keeps length _ (λ j A. upto_keeps length _ (λ i B. length_add_at B _ _) (length test_dofs) A) (length trial_dofs) M
 
 -- a turn of the loop over the test basis
 pub row_turn : (entry : ℕ → Float) (base : ℕ) (test_dofs : List ℕ) {xs ys : List Float} {i row : ℕ}
@@ -60,8 +60,8 @@ pub add_local_ext : (f g : ℕ → ℕ → Float) (rows : ℕ) (test_dofs trial_
     → (M : List Float) → add_local f rows test_dofs trial_dofs M ≡ add_local g rows test_dofs trial_dofs M
 unfolding add_local
 add_local_ext f g rows test_dofs trial_dofs h M =
-    upto-ext _ _ (length trial_dofs)
-    (λ j hj A. upto-ext _ _ (length test_dofs) (λ i hi B. ap (add_at B (get_or test_dofs i 0 + rows * get_or trial_dofs j 0)) (h i j hi hj)) A)
+    upto_ext _ _ (length trial_dofs)
+    (λ j hj A. upto_ext _ _ (length test_dofs) (λ i hi B. ap (add_at B (get_or test_dofs i 0 + rows * get_or trial_dofs j 0)) (h i j hi hj)) A)
     M
 
 -- ---- the entry lists

@@ -7,7 +7,7 @@ use Rattle.grid.specs.Cells.{same_two}
 use Rattle.cell_pairs.specs.Records.{pattern_count}
 use Rattle.cell_pairs.specs.Matches.{Match, triangle_count, edge_of, pattern_of}
 use Rattle.cell_pairs.specs.Cases.{Case, cases, test_at}
-use Rattle.cell_pairs.specs.Table.{pattern, number_of as tableNumber}
+use Rattle.cell_pairs.specs.Table.{pattern, number_of as table_number}
 use Rattle.cell_pairs.specs.MatchesFacts.{Places, matches_at}
 use Rattle.triangle_patterns.specs.TrianglesFacts.{three_pattern, clash, at_places, number_places}
 
@@ -32,11 +32,11 @@ unfolding all ◌and◌ ◌or◌ least same_two edge_of pattern_of matches_at
 right_computed = refl
 
 module _ {a b c : ℕ} (h : Places a b c) where
-  number_is : number_of cases (16 * a + 4 * b + c) (three_pattern a b c) ≡ tableNumber (pattern 3 3 (matches_at a b c))
+  number_is : number_of cases (16 * a + 4 * b + c) (three_pattern a b c) ≡ table_number (pattern 3 3 (matches_at a b c))
   number_is = eqb-true _ _ (at_places h right right_computed) ∙ sym (number_places h)
 
   -- an arm of the match
-  pub arm : {n : ℕ} → 16 * a + 4 * b + c ≡ n → number_of cases n (three_pattern a b c) ≡ tableNumber (pattern 3 3 (matches_at a b c))
+  pub arm : {n : ℕ} → 16 * a + 4 * b + c ≡ n → number_of cases n (three_pattern a b c) ≡ table_number (pattern 3 3 (matches_at a b c))
   arm k = sym (ap (λ (n : ℕ). number_of cases n (three_pattern a b c)) k) ∙ number_is
 
 -- ---- the last arm
@@ -50,5 +50,5 @@ none_number : (n d : ℕ) (T : Type 0) (cs : List Case) → NoneOf n T cs → (d
 none_number n d T [] h = (refl, h)
 none_number n d T (c ∷ cs) h = let r = none_number n d (T × (n ≡ bits c.shared → ⊥)) cs h in (rw (ne_eqb _ _ r.1.1) r.0, r.1.0)
 
-pub last_arm : {a b c : ℕ} → Places a b c → NoneOf (16 * a + 4 * b + c) (Unit {0}) cases → {r : ℕ} → r ≡ three_pattern a b c → r ≡ tableNumber (pattern 3 3 (matches_at a b c))
+pub last_arm : {a b c : ℕ} → Places a b c → NoneOf (16 * a + 4 * b + c) (Unit {0}) cases → {r : ℕ} → r ≡ three_pattern a b c → r ≡ table_number (pattern 3 3 (matches_at a b c))
 last_arm {a} {b} {c} h none e = e ∙ (none_number (16 * a + 4 * b + c) (three_pattern a b c) (Unit {0}) cases none).0 ∙ number_is h

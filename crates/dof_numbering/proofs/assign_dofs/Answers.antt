@@ -36,12 +36,11 @@ pub visit_cell-next-requires : goal.visit_cell-next-requires
 visit_cell-next-requires c = record { cell_lt_most_cells = (cell_asks _ _ c.requires.sized _ _ _ _ _ c.loop-i-test.true c.loop-i.invariant.2 _ c.corners_of.ensures.0 _ _ refl refl _ c.of.ensures).0; room = (cell_asks _ _ c.requires.sized _ _ _ _ _ c.loop-i-test.true c.loop-i.invariant.2 _ c.corners_of.ensures.0 _ _ refl refl _ c.of.ensures).1 }
 
 pub loop-i-preserved : goal.loop-i-preserved
-loop-i-preserved c =
-    (
-      c.visit_cell-next.auto.dofs ∙ c.loop-i.invariant.0,
-      c.visit_cell-next.auto.owners ∙ c.loop-i.invariant.1,
-      cell_gives _ _ c.requires.sized _ _ _ _ _ c.loop-i-test.true c.loop-i.invariant.2 _ c.corners_of.ensures.0 _ _ refl refl _ c.of.ensures _ c.visit_cell-next.ensures,
-    )
+loop-i-preserved c = (
+  c.visit_cell-next.auto.dofs ∙ c.loop-i.invariant.0,
+  c.visit_cell-next.auto.owners ∙ c.loop-i.invariant.1,
+  cell_gives _ _ c.requires.sized _ _ _ _ _ c.loop-i-test.true c.loop-i.invariant.2 _ c.corners_of.ensures.0 _ _ refl refl _ c.of.ensures _ c.visit_cell-next.ensures,
+)
 
 pub returns : goal.returns
 returns c =

@@ -14,12 +14,11 @@ pub visit-reached-requires : goal.visit-reached-requires
 visit-reached-requires c = record { x_bound = c.requires.slots.below _ c.loop-k-test.true; room = visiting_room _ _ _ _ _ _ c.loop-k-test.true c.loop-k.invariant.2 }
 
 pub loop-k-preserved : goal.loop-k-preserved
-loop-k-preserved c =
-    (
-      c.visit-reached.auto.dofs ∙ c.loop-k.invariant.0,
-      c.visit-reached.auto.owners ∙ c.loop-k.invariant.1,
-      visiting_turn _ _ _ _ _ _ c.loop-k-test.true c.loop-k.invariant.2 _ c.visit-reached.ensures,
-    )
+loop-k-preserved c = (
+  c.visit-reached.auto.dofs ∙ c.loop-k.invariant.0,
+  c.visit-reached.auto.owners ∙ c.loop-k.invariant.1,
+  visiting_turn _ _ _ _ _ _ c.loop-k-test.true c.loop-k.invariant.2 _ c.visit-reached.ensures,
+)
 
 pub returns : goal.returns
 returns c = visiting_ends _ _ _ _ _ _ (omega arith) c.loop-k.invariant.2

@@ -14,6 +14,6 @@ pub returns : goal.returns
 unfolding part_of ◌and◌
 returns c =
     elim c.if-a-e.branch [
-      then-a-e+else-e-pool w ↦ simp (le-leb _ _ w.if-a-e.true, lt-leb _ _ w.if-e-pool.false)
+      | then-a-e+else-e-pool w ↦ simp (le-leb _ _ w.if-a-e.true, lt-leb _ _ w.if-e-pool.false)
       | else-a-e w ↦ simp (lt-leb _ _ w.if-a-e.false)
     ]

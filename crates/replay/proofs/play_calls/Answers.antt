@@ -21,8 +21,7 @@ play_call-r-requires c =
 
 pub loop-k-preserved : goal.loop-k-preserved
 loop-k-preserved c =
-    let inv = c.loop-k.invariant in
-    (
+    let inv = c.loop-k.invariant in (
       omega (arith, c.loop-k-test.true),
       c.play_call-r.auto.matrix ∙ inv.1,
       c.play_call-r.auto.rows ∙ inv.2,

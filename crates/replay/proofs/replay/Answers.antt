@@ -18,8 +18,8 @@ returns-in-Refused c =
     let l : Lists = lists_of c.args.test_dofs.now c.args.trial_dofs.now c.args.test_colours.now c.args.trial_colours.now c.args.test_owners.now c.args.trial_owners.now c.args.work.now in
     let e : EntryLists = entry_lists c.args.rows.now c.args.columns.now c.args.values.now in
     let f =
-        finished_refused x l c.args.entries (calls_of c.args.calls.now c.args.pool.now (call_count c.args.calls.now c.args.answers.now)) c.args.matrix.now e c.args.answers.now _
-        (sym c.plan-planned.ensures.value ∙ c.in-Refused.is) in
+    finished_refused x l c.args.entries (calls_of c.args.calls.now c.args.pool.now (call_count c.args.calls.now c.args.answers.now)) c.args.matrix.now e c.args.answers.now _
+    (sym c.plan-planned.ensures.value ∙ c.in-Refused.is) in
     record { result_value = f.answer; matrix_after = f.matrix; values_after = f.lists; answers_after = f.answers; work_after = c.plan-planned.ensures.work_after }
 
 pub returns-in-Ready : goal.returns-in-Ready
@@ -28,6 +28,6 @@ returns-in-Ready c =
     let l : Lists = lists_of c.args.test_dofs.now c.args.trial_dofs.now c.args.test_colours.now c.args.trial_colours.now c.args.test_owners.now c.args.trial_owners.now c.args.work.now in
     let e : EntryLists = entry_lists c.args.rows.now c.args.columns.now c.args.values.now in
     let f =
-        finished_begun x l _ c.args.entries c.args.calls.now c.args.pool.now _ _ _ c.args.matrix.now e c.args.answers.now _ _ _ _ (sym c.plan-planned.ensures.value ∙ c.in-Ready.is)
-        c.plan-planned.ensures.work_after c.call_count-n.ensures c.begin_run.ensures c.play_calls-run.ensures in
+    finished_begun x l _ c.args.entries c.args.calls.now c.args.pool.now _ _ _ c.args.matrix.now e c.args.answers.now _ _ _ _ (sym c.plan-planned.ensures.value ∙ c.in-Ready.is)
+    c.plan-planned.ensures.work_after c.call_count-n.ensures c.begin_run.ensures c.play_calls-run.ensures in
     record { result_value = f.answer; matrix_after = f.matrix; values_after = f.lists; answers_after = f.answers; work_after = c.plan-planned.ensures.work_after }

@@ -14,11 +14,16 @@ loop-i-init c = (filled_none _ _, marks_none)
 pub next_colour-colour-requires : goal.next_colour-colour-requires
 next_colour-colour-requires c =
     let inv = c.loop-i.invariant in
-    record { by_entity = c.requires.by_entity; i_in_bounds = omega (arith, c.requires.rows_len, inv.0.long); earlier = record {
-            place = c.loop-i-test.true;
-            below = omega (arith, c.requires.rows_len, inv.0.long);
-            low = λ j b. omega (arith, front_le inv.0 j b, c.requires.rows_len, inv.0.long);
-          }; marks = inv.1 }
+    record {
+      by_entity = c.requires.by_entity;
+      i_in_bounds = omega (arith, c.requires.rows_len, inv.0.long);
+      earlier = record {
+        place = c.loop-i-test.true;
+        below = omega (arith, c.requires.rows_len, inv.0.long);
+        low = λ j b. omega (arith, front_le inv.0 j b, c.requires.rows_len, inv.0.long);
+      };
+      marks = inv.1;
+    }
 
 pub overflow_cast-colours : goal.overflow_cast-colours
 overflow_cast-colours c =

@@ -28,7 +28,7 @@ loop-k-preserved c =
     let inv = c.loop-k.invariant.1 in
     let low = c.requires.earlier.low in
     elim c.if-j-i.branch [
-      then-j-i w ↦ (search rules, rw w.marks-is (mark_yes _ _ _ _ inv c.wide-j.ensures w.if-j-i.true w.wide-at.ensures (rw w.wide-at.ensures (low _ w.if-j-i.true))))
+      | then-j-i w ↦ (search rules, rw w.marks-is (mark_yes _ _ _ _ inv c.wide-j.ensures w.if-j-i.true w.wide-at.ensures (rw w.wide-at.ensures (low _ w.if-j-i.true))))
       | else-j-i w ↦ (search rules, rw w.marks-is (mark_no _ _ _ _ inv c.wide-j.ensures w.if-j-i.false))
     ]
 

@@ -6,5 +6,4 @@ pub returns : goal.returns
 returns c = (
   rw (c.two_at-cells.ensures.0, c.two_at-vertices.ensures.0, c.two_at-edges.ensures.0, c.element_at-test.ensures, c.element_at-trial.ensures, c.two_at-batch.ensures.0),
   c.two_at-cells.ensures.1,
-
 )

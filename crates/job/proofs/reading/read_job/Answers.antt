@@ -30,7 +30,7 @@ read_front-requires-2 c =
 pub returns : goal.returns
 returns c =
     let r =
-            read_whole _ _ (sym c.job_refusal-refused.ensures ∙ c.if-refused-ne0.false) c.numbers_of-numbers.ensures.0
-            (c.wide-n.ensures ∙ ap (λ (n : JobNumbers). n.cells) c.numbers_of-numbers.ensures.0)
-            c.args.vertex_list.now c.args.edge_list.now c.read_front.ensures c.read_front-2.ensures in
+    read_whole _ _ (sym c.job_refusal-refused.ensures ∙ c.if-refused-ne0.false) c.numbers_of-numbers.ensures.0
+    (c.wide-n.ensures ∙ ap (λ (n : JobNumbers). n.cells) c.numbers_of-numbers.ensures.0)
+    c.args.vertex_list.now c.args.edge_list.now c.read_front.ensures c.read_front-2.ensures in
     record { value = r.0; vertex_list_after = r.1.0; edge_list_after = r.1.1 }

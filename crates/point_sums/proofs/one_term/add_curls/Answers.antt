@@ -34,12 +34,11 @@ pub loop-j-smaller : goal.loop-j-smaller
 loop-j-smaller c = omega (arith, c.loop-j-test.true)
 
 pub loop-j-preserved : goal.loop-j-preserved
-loop-j-preserved c =
-    (
-      omega (arith, c.loop-j-test.true),
-      added_turn c.loop-j.invariant.1 c.curls_column.ensures
-          (λ i x l. ap (λ (y : Float). x ⊕ factored c.args.term y ⊗ c.args.w ⊗ c.args.v) (curls_at _ _ c.geometry_at-test.result c.geometry_at-trial.result c.geometry_at-test.ensures c.geometry_at-trial.ensures (c.test_sides.ensures i l) c.trial_side-b.ensures)),
-    )
+loop-j-preserved c = (
+  omega (arith, c.loop-j-test.true),
+  added_turn c.loop-j.invariant.1 c.curls_column.ensures
+      (λ i x l. ap (λ (y : Float). x ⊕ factored c.args.term y ⊗ c.args.w ⊗ c.args.v) (curls_at _ _ c.geometry_at-test.result c.geometry_at-trial.result c.geometry_at-test.ensures c.geometry_at-trial.ensures (c.test_sides.ensures i l) c.trial_side-b.ensures)),
+)
 
 pub returns : goal.returns
 returns c =

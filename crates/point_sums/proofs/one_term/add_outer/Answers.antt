@@ -25,12 +25,11 @@ pub outer_column-requires : goal.outer_column-requires
 outer_column-requires c = (c.loop-j.invariant.1.size, c.requires.1.few, omega (arith, c.loop-j-test.true, c.requires.2.few))
 
 pub loop-j-preserved : goal.loop-j-preserved
-loop-j-preserved c =
-    (
-      search rules,
-      added_turn c.loop-j.invariant.1 c.outer_column.ensures
-          (λ i x l. ap (λ (y : Float). x ⊕ y) (ap (λ (y : Float). factored c.args.term y ⊗ c.args.w ⊗ c.args.v) (ap₂ ◌⊗◌ (mapped_at c.scaled_rows.ensures i i l (sym (zero-add i))) c.table_value-r.ensures))),
-    )
+loop-j-preserved c = (
+  search rules,
+  added_turn c.loop-j.invariant.1 c.outer_column.ensures
+      (λ i x l. ap (λ (y : Float). x ⊕ y) (ap (λ (y : Float). factored c.args.term y ⊗ c.args.w ⊗ c.args.v) (ap₂ ◌⊗◌ (mapped_at c.scaled_rows.ensures i i l (sym (zero-add i))) c.table_value-r.ensures))),
+)
 
 pub returns : goal.returns
 returns c =

@@ -32,12 +32,11 @@ pub loop-j-smaller : goal.loop-j-smaller
 loop-j-smaller c = omega (arith, c.loop-j-test.true)
 
 pub loop-j-preserved : goal.loop-j-preserved
-loop-j-preserved c =
-    (
-      omega (arith, c.loop-j-test.true),
-      added_turn c.loop-j.invariant.1 c.outers_column.ensures
-          (λ i x l. ap (λ (y : Float). x ⊕ weighed c.args.weight y) (ap₂ ◌⊕◌ (ap (factored c.args.first) (ap₂ ◌⊗◌ (mapped_at c.scaled_rows.ensures i i l (sym (zero-add i))) c.table_value-r.ensures)) (ap (factored c.args.second) (ap₂ ◌⊗◌ (mapped_at c.scaled_rows-2.ensures i i l (sym (zero-add i))) c.table_value-r.ensures)))),
-    )
+loop-j-preserved c = (
+  omega (arith, c.loop-j-test.true),
+  added_turn c.loop-j.invariant.1 c.outers_column.ensures
+      (λ i x l. ap (λ (y : Float). x ⊕ weighed c.args.weight y) (ap₂ ◌⊕◌ (ap (factored c.args.first) (ap₂ ◌⊗◌ (mapped_at c.scaled_rows.ensures i i l (sym (zero-add i))) c.table_value-r.ensures)) (ap (factored c.args.second) (ap₂ ◌⊗◌ (mapped_at c.scaled_rows-2.ensures i i l (sym (zero-add i))) c.table_value-r.ensures)))),
+)
 
 pub returns : goal.returns
 returns c =
