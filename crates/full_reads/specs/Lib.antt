@@ -1,0 +1,2 @@
+-- What a clause reads of a `Source` (`Sources`).
+pub mod Sources
