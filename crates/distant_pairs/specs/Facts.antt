@@ -22,7 +22,7 @@ use Rattle.function.specs.Colours.{colour_count}
 use Rattle.cell_pairs.specs.declared.WorkRecord.{WorkRecord}
 use Rattle.cell_pairs.specs.Records.{rec, distant_pattern}
 use Rattle.cell_pairs.specs.Patterns.{touch}
-use Rattle.cell_pairs.specs.WorkRecordsFacts.{distant_same}
+use Rattle.cell_pairs.proofs.WorkRecordsFacts.{distant_same}
 use Rattle.cell_pairs.specs.WorkList.{coloured, batches, distant_pair, distant_batch, distant_colours, distant_kinds, distant_part}
 use Rattle.cells_by_key.specs.Groups.{cells_with, from, part, Grouped, Cells, Cut, ByKind}
 use Rattle.cells_by_key.specs.GroupsFacts.{grouped_each, grouped_cut, filter_cells, with_one, with_triangles, with_quads}

@@ -17,7 +17,8 @@ use Rattle.function.specs.Colours.{colour_list}
 use Rattle.function.proofs.ColoursPromises.{colours_long}
 use Rattle.integrands.specs.Terms.{integrand_right}
 use Rattle.cell_pairs.specs.Patterns.{patterns_right}
-use Rattle.cell_pairs.specs.Counting.{Countable, countable}
+use Rattle.cell_pairs.specs.Counting.{Countable}
+use Rattle.cell_pairs.proofs.Counting.{countable}
 use Rattle.plans.specs.declared.PlanNumbers.{PlanNumbers}
 use Rattle.plans.specs.declared.Planned.TheVariants.{Ready as ready}
 use Rattle.plans.specs.Planning.{Planning, Lists, batch_right, lengths_right, plan_checks, plan_refusal, plan_numbers, plan_answer, plan, places_on, elements_fit, space_on, test_space, trial_space}

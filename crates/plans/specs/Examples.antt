@@ -10,7 +10,8 @@ use Rattle.dof_numbering.specs.Examples.{opened_dofs}
 use Rattle.integrands.specs.declared.Term.TheVariants.{Bare}
 use Rattle.integrands.specs.Examples.{opened_integrands}
 use Rattle.cell_pairs.specs.Records.{rec, flat}
-use Rattle.cell_pairs.specs.Examples.{opened_cell_pairs, m_work}
+use Rattle.cell_pairs.specs.Examples.{opened_cell_pairs}
+use Rattle.cell_pairs.proofs.WorkExamples.{m_work}
 use Rattle.plans.specs.declared.PlanNumbers.{PlanNumbers}
 use Rattle.plans.specs.declared.Planned.{Planned}
 use Rattle.plans.specs.declared.Planned.TheVariants.{Ready as ready, Refused as refused}

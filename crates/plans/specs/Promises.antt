@@ -17,7 +17,7 @@ use Rattle.cell_pairs.specs.Records.{rec, width, flat, records_of}
 use Rattle.cell_pairs.specs.RecordsFacts.{length_flat, records_flat}
 use Rattle.cell_pairs.specs.WorkList.{sharing_pairs, distant_pairs}
 use Rattle.cell_pairs.specs.WorkRecords.{of_pair, Distant, Touching}
-use Rattle.cell_pairs.specs.Counting.{once, split, kinds_split, length_work, record_distant, record_touching}
+use Rattle.cell_pairs.proofs.Counting.{once, split, kinds_split, length_work, record_distant, record_touching}
 use Rattle.grid.specs.Mesh.{Mesh, cells_of, corners, sides}
 use Rattle.plans.specs.declared.PlanNumbers.{PlanNumbers}
 use Rattle.plans.specs.declared.Planned.TheVariants.{Ready as ready, Refused as refused}

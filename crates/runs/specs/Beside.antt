@@ -31,9 +31,9 @@ use Rattle.cell_pairs.specs.declared.WorkRecord.{WorkRecord}
 use Rattle.cell_pairs.specs.Records.{width, rec, flat, record_at}
 use Rattle.cell_pairs.specs.WorkList.{sharing_pairs, distant_pairs}
 use Rattle.cell_pairs.specs.RecordsFacts.{flat_at, length_flat}
-use Rattle.cell_pairs.specs.Counting.{split, kinds_split}
+use Rattle.cell_pairs.proofs.Counting.{split, kinds_split}
 use Rattle.cell_pairs.specs.Blocks.{blocks_of, block_at, Blocked}
-use Rattle.cell_pairs.specs.BlocksFacts.{blocked_kinds, blocked_entries}
+use Rattle.cell_pairs.proofs.BlocksFacts.{blocked_kinds, blocked_entries}
 use Rattle.plans.specs.Planning.{Planning, Lists, plan_numbers, unless_refused, test_space, trial_space}
 use Rattle.plans.specs.Accepted.{dofs_long, dofs_few, Accepted, counted, test_fits, trial_fits}
 use Rattle.runs.specs.Runs.{Run, Plan, EntryLists, Answer, found, answered, begin, begin_entries, begun, record_of, test_dofs_of, trial_dofs_of, written, cell_dofs, is_touching, is_distant, ranges_right, counts_right, kinds_fit, plan_right, kinds_put, kind_dim, entries_on, entries_to, matrix_right, entries_right, pair_left, record_known, record_right, state_checks, look_refusal, distant_refusal, touching_refusal, entries_refusal, advance, look, add_distant, add_touching, add_entries, distant_matrix, touching_matrix, entries_written}

@@ -28,7 +28,7 @@ use Rattle.cell_pairs.specs.declared.WorkRecord.{WorkRecord}
 use Rattle.cell_pairs.specs.Records.{rec}
 use Rattle.cell_pairs.specs.WorkList.{touching_part, distant_part, work_list, distant_pairs, sharing_pairs}
 use Rattle.cell_pairs.specs.WorkRecords.{of_pair}
-use Rattle.cell_pairs.specs.Counting.{split, length_distant, length_touching, once_touching, record_touching}
+use Rattle.cell_pairs.proofs.Counting.{split, length_distant, length_touching, once_touching, record_touching}
 use Rattle.scatter.specs.AddingFacts.{length_local_rows, length_local_columns, length_local_values}
 use Rattle.plans.specs.Planning.{Planning, Lists, test_space, trial_space, work_records}
 use Rattle.plans.specs.Accepted.{mesh_fine, Accepted, counted, test_fits, trial_fits}

@@ -6,9 +6,9 @@ use Rattle.lists.specs.Bounded.{lt_or_le}
 use Rattle.cell_pairs.specs.Records.{rec, pattern_count, distant_pattern}
 use Rattle.cell_pairs.specs.WorkList.{distant_part, touching_part, work_list, distant_pairs}
 use Rattle.cell_pairs.specs.Blocks.{blocks_of, Blocked}
-use Rattle.cell_pairs.specs.BlocksFacts.{touching_blocked}
+use Rattle.cell_pairs.proofs.BlocksFacts.{touching_blocked}
 use Rattle.cell_pairs.specs.WorkRecords.{Distant, Touching}
-use Rattle.cell_pairs.specs.Counting.{length_distant, length_work, record_distant, record_touching, records_right}
+use Rattle.cell_pairs.proofs.Counting.{length_distant, length_work, record_distant, record_touching, records_right}
 use Rattle.plans.specs.declared.PlanNumbers.{PlanNumbers}
 use Rattle.plans.specs.declared.Planned.TheVariants.{Ready as ready}
 use Rattle.plans.specs.Planning.{Planning, Lists, plan, plan_refusal, plan_lists, written_lists, work_records}

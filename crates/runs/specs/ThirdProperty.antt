@@ -11,7 +11,7 @@ use Rattle.std.specs.Float.{nan}
 use Rattle.lists.specs.Total.{count}
 use Rattle.cell_pairs.specs.Records.{rec}
 use Rattle.cell_pairs.specs.WorkRecords.{of_pair}
-use Rattle.cell_pairs.specs.Counting.{once, length_work}
+use Rattle.cell_pairs.proofs.Counting.{once, length_work}
 use Rattle.plans.specs.declared.PlanNumbers.{PlanNumbers}
 use Rattle.plans.specs.declared.Planned.TheVariants.{Ready as ready}
 use Rattle.plans.specs.Planning.{Planning, Lists, plan, plan_lists, work_records}

@@ -14,7 +14,7 @@ use Rattle.lent_numbers.specs.Lent.{Touching}
 use Rattle.lent_numbers.specs.Entries.{touching_entry}
 use Rattle.cell_pairs.specs.declared.WorkRecord.{WorkRecord}
 use Rattle.cell_pairs.specs.WorkRecords.{Touching as Near}
-use Rattle.cell_pairs.specs.WorkRecordsFacts.{touching_each}
+use Rattle.cell_pairs.proofs.WorkRecordsFacts.{touching_each}
 use Rattle.cell_pairs.specs.WorkList.{touching_part}
 use Rattle.scatter.specs.Adding.{local_rows, local_columns}
 use Rattle.scatter.specs.AddingFacts.{length_local_rows, length_local_columns, length_local_values}
