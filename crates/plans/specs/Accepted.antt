@@ -12,7 +12,7 @@ use Rattle.function.specs.Elements.{cell_dim, most_dim, elements_right, dims_rig
 use Rattle.function.specs.ElementsFacts.{dim_within, same_vertices_holds, same_edges}
 use Rattle.dof_numbering.specs.Numbering.{dof_list, dof_count}
 use Rattle.dof_numbering.specs.ByCell.{Filled, Matched}
-use Rattle.dof_numbering.specs.Promises.{dof_list_length, dof_count_le, dof_below}
+use Rattle.dof_numbering.proofs.Promises.{dof_list_length, dof_count_le, dof_below}
 use Rattle.function.specs.Colours.{colour_list}
 use Rattle.function.proofs.ColoursPromises.{colours_long}
 use Rattle.integrands.specs.Terms.{integrand_right}

@@ -10,7 +10,8 @@ use Rattle.grid.specs.KindsFacts.{kinded, kinds_sum}
 use Rattle.function.specs.declared.Elements.{Elements}
 use Rattle.function.specs.Elements.{cell_dim, Space}
 use Rattle.dof_numbering.specs.Numbering.{visits, dimension_of, entity_of, dofs_on, same_entity, dof_list, dof_count, owner_list, kind, visits_in, visit_of, dof_place}
-use Rattle.dof_numbering.specs.Promises.{dof_list_length, dof_below, dof_count_le, number_written, Distinct, cell_numbers_differ, shared_numbers, number_below, owner_names, owner_list_length}
+use Rattle.dof_numbering.specs.Promises.{Distinct}
+use Rattle.dof_numbering.proofs.Promises.{dof_list_length, dof_below, dof_count_le, number_written, cell_numbers_differ, shared_numbers, number_below, owner_names, owner_list_length}
 use Rattle.function.specs.Colours.{sharing, colour_list}
 use Rattle.function.proofs.ColoursPromises.{colours_long, sharing_differ}
 use Rattle.cell_pairs.specs.Records.{rec, width, flat, records_of}

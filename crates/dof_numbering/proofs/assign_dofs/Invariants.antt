@@ -4,7 +4,7 @@ use native.Mathlib.Omega.{arith}
 use mathlib.Core.Path.{◌≡◌, refl, ◌∙◌}
 use lib.ListN.{length}
 use Rattle.dof_numbering.specs.Walk.{space, state}
-use Rattle.dof_numbering.specs.WholeWalk.{Numbered, numbered_none, vertices_reach, edges_reach, cell_asks, cell_gives, numbered_ends}
+use Rattle.dof_numbering.proofs.WholeWalk.{Numbered, numbered_none, vertices_reach, edges_reach, cell_asks, cell_gives, numbered_ends}
 use Rattle.dof_numbering.proofs.assign_dofs.Given as goal
 
 abbrev pub invariant-loop-i : goal.invariant-loop-i

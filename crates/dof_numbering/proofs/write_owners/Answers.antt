@@ -5,7 +5,7 @@ use mathlib.Core.Path.{◌≡◌, refl}
 use lib.ListN.{length, length-set}
 use lib.Seq.{sets}
 use Rattle.dof_numbering.specs.Numbering.{owners_on}
-use Rattle.dof_numbering.specs.Walk.{owners_step}
+use Rattle.dof_numbering.proofs.Walk.{owners_step}
 use borrow.Author.Rules.{rules}
 use Rattle.dof_numbering.proofs.write_owners.Goals as goal
 
