@@ -3,7 +3,7 @@ use Prim.Native.Nat.{◌≤◌}
 use native.Mathlib.Omega.{arith}
 use mathlib.Core.Path.{sym, ◌∙◌}
 use lib.ListN.{length}
-use Rattle.job.specs.HeadFacts.{cells_said, refused_said}
+use Rattle.job.proofs.HeadFacts.{cells_said, refused_said}
 use Rattle.worklist_io.specs.AnswersFacts.{came_seven, wrong_answers}
 use Rattle.worklist_io.specs.Answers.{most_bytes}
 use borrow.Author.Rules.{rules}
