@@ -24,7 +24,7 @@ use Rattle.cell_patterns.specs.PatternFacts.{mesh_patterns}
 use Rattle.cells_by_key.specs.Groups.{kind_key, ByKind, cells_with, Grouped, Cut, Below, Zeros}
 use Rattle.cells_by_key.specs.GroupsFacts.{kind_keys_below, scratch, scratch_zeros}
 use Rattle.distant_pairs.specs.Distant.{distant_parts}
-use Rattle.distant_pairs.specs.Facts.{ByColour, by_colour, by_colour_cut, distant_is}
+use Rattle.distant_pairs.proofs.Facts.{ByColour, by_colour, by_colour_cut, distant_is}
 use Rattle.touching_pairs.specs.declared.TouchingEnds.{TouchingEnds}
 use Rattle.touching_pairs.specs.Visits.{bare, Touchable, EndsAt}
 use Rattle.touching_pairs.specs.BareFacts.{touching_rows, sharing_rows, touchable_rows}

@@ -8,7 +8,7 @@ use Rattle.cell_pairs.specs.RecordsFacts.{records}
 use Rattle.cells_by_key.specs.GroupsFacts.{cells_batch}
 use Rattle.cell_pairs.specs.WorkList.{distant_colours}
 use Rattle.distant_pairs.specs.Distant.{distant_trials}
-use Rattle.distant_pairs.specs.Facts.{batch_count, batch_one, batch_few, batch_past, batch_begins}
+use Rattle.distant_pairs.proofs.Facts.{batch_count, batch_one, batch_few, batch_past, batch_begins}
 use borrow.Author.Rules.{rules}
 use Rattle.distant_pairs.proofs.write_colours.Goals as goal
 use Rattle.distant_pairs.proofs.write_colours.Goals.{In-loop-b}

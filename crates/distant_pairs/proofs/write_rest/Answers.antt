@@ -8,7 +8,7 @@ use Rattle.cell_pairs.specs.RecordsFacts.{records}
 use Rattle.cells_by_key.specs.Groups.{part}
 use Rattle.cell_pairs.specs.WorkList.{distant_colours}
 use Rattle.distant_pairs.specs.Distant.{half, distant_rest}
-use Rattle.distant_pairs.specs.Facts.{kind_first, kind_group}
+use Rattle.distant_pairs.proofs.Facts.{kind_first, kind_group}
 use borrow.Author.Rules.{rules}
 use Rattle.distant_pairs.proofs.write_rest.Goals as goal
 use Rattle.distant_pairs.proofs.write_rest.Goals.{In-loop-d}

@@ -6,7 +6,7 @@ use Rattle.lists.specs.Writes.{Each, each_start, each_in, each_room, each_turn, 
 use Rattle.cell_pairs.specs.RecordsFacts.{records}
 use Rattle.cell_pairs.specs.WorkList.{distant_pair}
 use Rattle.distant_pairs.specs.Distant.{distant_row}
-use Rattle.distant_pairs.specs.Facts.{corners_read, pair_same}
+use Rattle.distant_pairs.proofs.Facts.{corners_read, pair_same}
 use Rattle.distant_pairs.proofs.write_row.Given as goal
 
 abbrev pub invariant-loop-k : goal.invariant-loop-k

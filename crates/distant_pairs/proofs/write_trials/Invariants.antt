@@ -9,7 +9,7 @@ use Rattle.cell_pairs.specs.RecordsFacts.{records}
 use Rattle.cells_by_key.specs.GroupsFacts.{cells_batch}
 use Rattle.cell_pairs.specs.WorkList.{distant_batch}
 use Rattle.distant_pairs.specs.Distant.{distant_trials}
-use Rattle.distant_pairs.specs.Facts.{batch_count, batch_one, batch_few, batch_past, batch_begins}
+use Rattle.distant_pairs.proofs.Facts.{batch_count, batch_one, batch_few, batch_past, batch_begins}
 use Rattle.distant_pairs.proofs.write_trials.Given as goal
 
 abbrev pub invariant-loop-d : goal.invariant-loop-d
