@@ -17,8 +17,9 @@ use Rattle.runs.specs.Calls.{Call, Progress, call_all}
 use Rattle.runs.specs.Machine.{machine_along, machine_of}
 use Rattle.runs.specs.Listed.{plan_in}
 use Rattle.runs.specs.Reading.{taken, lent_to}
-use Rattle.runs.specs.EntriesFacts.{touching_long}
-use Rattle.runs.specs.EntriesProperty.{EntriesProperty, entries_property}
+use Rattle.runs.proofs.EntriesFacts.{touching_long}
+use Rattle.runs.specs.EntriesProperty.{EntriesProperty}
+use Rattle.runs.proofs.EntriesProperty.{entries_property}
 use Rattle.sparse_lists.specs.declared.Gathered.TheVariants.{Kept as kept}
 use Rattle.sparse_lists.specs.Sparse.{values_at, kept_of, SparseLists, in_front, entries_fit, sparse_rows, sparse_written}
 use Rattle.sparse_lists.specs.Pairs.{pairs_at}

@@ -37,9 +37,9 @@ use Rattle.runs.specs.CellDofs.{cell_long}
 use Rattle.runs.specs.Calls.{Call, looks, adds_distant, adds_touching, adds_entries}
 use Rattle.runs.specs.Machine.{Machine, machine_along, machine_of, State, entries_to, lists_sized, call_checks, add_pair, write_pair, granted, call_refusal, machine_step}
 use Rattle.runs.specs.Beside.{pair_count}
-use Rattle.runs.specs.Listed.{touching_behind_lem}
+use Rattle.runs.proofs.Listed.{touching_behind_lem}
 use Rattle.runs.specs.Reading.{is_accepted, acceptances, answer_at, taken, lent_to, record_rows, record_columns, call_values, record_values, entries_of}
-use Rattle.runs.specs.ReadingFacts.{pairs_from, answers_from}
+use Rattle.runs.proofs.ReadingFacts.{pairs_from, answers_from}
 
 -- ---- an accepted call of an entries run is an entries call
 
