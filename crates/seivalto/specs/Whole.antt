@@ -17,7 +17,8 @@ use Rattle.runs.specs.ThirdProperty.{ThirdProperty}
 use Rattle.runs.proofs.ThirdProperty.{third_property}
 use Rattle.runs.specs.EntriesProperty.{EntriesProperty}
 use Rattle.runs.proofs.EntriesProperty.{entries_property}
-use Rattle.sparse_lists.specs.SparseProperty.{SparseProperty, sparse_of}
+use Rattle.sparse_lists.specs.SparseProperty.{SparseProperty}
+use Rattle.sparse_lists.proofs.SparseProperty.{sparse_of}
 use Rattle.function.specs.declared.Elements.{Elements}
 use Rattle.c_forms.specs.declared.CIntegrand.{CIntegrand}
 use Rattle.c_forms.specs.declared.CPlanned.{CPlanned}
