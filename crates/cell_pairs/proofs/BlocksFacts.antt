@@ -20,7 +20,7 @@ use Rattle.cell_pairs.specs.WorkList.{touching_pattern, touching_part, sharing_o
 use Rattle.cell_pairs.proofs.WorkRecordsFacts.{Marked, pattern_each}
 use Rattle.cell_pairs.specs.Counting.{Patterned}
 use Rattle.cell_pairs.proofs.Counting.{of_kinds, count_kinds}
-use Rattle.cell_pairs.specs.Blocks.{Block, block, blocks_of, block_at, entries_before, OfKinds, Blocked}
+use Rattle.cell_pairs.specs.Blocks.{Block, blocks_of, block_at, entries_before, OfKinds, Blocked}
 
 -- ---- records that come block after block
 

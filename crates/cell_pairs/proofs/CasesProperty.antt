@@ -1,5 +1,5 @@
 -- The proofs to `specs/CasesProperty.antt`. Assumes nothing.
-use Rattle.std.specs.Prelude.{ℕ, ◌<◌, ◌≡◌, refl, true, ◌⊎◌}
+use Rattle.std.specs.Prelude.{ℕ, ◌≡◌, refl, true}
 use Rattle.std.proofs.Common.{sym, ap, ◌∙◌}
 use Rattle.grid.specs.Mesh.{Mesh, corners, vertex_places, vertices_right}
 use Rattle.cell_pairs.specs.Matches.{matches, pattern_of}

@@ -1,5 +1,4 @@
 -- The proofs to `specs/TableProperty.antt`. Assumes nothing.
-use Rattle.std.specs.Prelude.{◌<◌, ◌≡◌, ◌++◌}
 use Rattle.cell_pairs.proofs.TableFacts.{table_many, table_blocks, table_places, table_formula, table_once, table_triangles, table_cases, triangles_number}
 use Rattle.cell_pairs.specs.TableProperty.{TableProperty}
 

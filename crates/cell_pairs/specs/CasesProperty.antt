@@ -1,7 +1,6 @@
 -- The theorem on the 27 cases (change 2): they are all the lists of one or two shared vertices that there can be, each once, with the numbers 0 to 26,
 -- and these are the formula's. Assumes nothing.
 use Rattle.std.specs.Prelude.{ℕ, ◌<◌, ◌≡◌, true, ◌⊎◌, List, length}
-use Rattle.std.proofs.Common.{◌∙◌}
 use Rattle.lists.specs.Refusals.{refusal}
 use Rattle.grid.specs.Mesh.{Mesh, corners, vertex_places, vertices_right, mesh_checks}
 use Rattle.cell_pairs.specs.Matches.{Match, matches, pattern_of}

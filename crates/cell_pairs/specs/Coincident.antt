@@ -1,9 +1,7 @@
 -- Coincident cells (change 4): what follows on a mesh of which no two cells have the same vertices. The pattern of a cell with itself stands at (i, i) alone, C times in
 -- all; and of triangles alone nothing is left for check 7. Assumes nothing.
-use Prim.Native.Nat.{ℕ, ◌+◌, ◌*◌, ◌<◌}
-use Rattle.std.proofs.Common.{◌∙◌}
+use Prim.Native.Nat.{ℕ, ◌<◌}
 use Rattle.std.specs.Prelude.{◌≡◌, true}
-use Rattle.lists.specs.Bool.{◌or◌}
 use Rattle.grid.specs.Cells.{distinct}
 use Rattle.grid.specs.Mesh.{Mesh, corners}
 use Rattle.cell_pairs.specs.Patterns.{same_vertices}

@@ -1,11 +1,9 @@
 -- The counting theorem: each ordered pair of cells stands on the work list exactly once; N of them are distant and come first, S are touching and
 -- follow, S + N = C·C, and the touching pairs per two kinds add up to S. Assumes nothing.
-use Prim.Native.Nat.{ℕ, ◌+◌, ◌-◌, ◌*◌, ◌<◌, ◌≤◌}
-use Rattle.std.proofs.Common.{◌∙◌}
-use Rattle.std.specs.Prelude.{◌≡◌, ◌⊎◌, true, get_or}
-use mathlib.Core.List.{List, ◌++◌}
+use Prim.Native.Nat.{ℕ, ◌<◌}
+use Rattle.std.specs.Prelude.{◌≡◌, true, get_or}
+use mathlib.Core.List.{List}
 use Rattle.std.proofs.Math.ListN.{length}
-use Rattle.lists.specs.Bool.{◌and◌, ◌or◌}
 use Rattle.grid.specs.Mesh.{Mesh, kind, corners}
 use Rattle.grid.specs.KindsFacts.{Kinded}
 use Rattle.cell_pairs.specs.Records.{pattern_count}

@@ -1,6 +1,6 @@
 -- M4, M5 and M7 of the paper, as records, and the pairs of small meshes with quads. (The text that `worklist` prints of the paper's is in `worklist_text`.) Assumes
 -- nothing.
-use Rattle.std.specs.Prelude.{ℕ, ◌≡◌, refl, true, false, List, [], ◌∷◌, ◌++◌}
+use Rattle.std.specs.Prelude.{ℕ, refl, true, false, List, [], ◌∷◌}
 use Rattle.lists.specs.Examples.{Example, example, Holds}
 use Rattle.grid.specs.Mesh.{Mesh}
 use Rattle.grid.specs.Examples.{mesh_m, m7_turned, m7_twice, edge_shared, diagonal, three_shared, quad_twice, quad_turned}

@@ -10,9 +10,9 @@ use Rattle.lists.specs.Bounded.{lt_or_le, eq_or_ne}
 use Rattle.lists.specs.Stores.{sets_append, sets_more}
 use Rattle.function.specs.declared.Element.{Element}
 use Rattle.dof_numbering.specs.declared.Next.{Next}
-use Rattle.dof_numbering.specs.Numbering.{Visit, visit, visit_each, visits_of, visit_at, free, up_from, owners_on}
+use Rattle.dof_numbering.specs.Numbering.{Visit, visit, visit_each, visits_of, visit_at, up_from, owners_on}
 use Rattle.dof_numbering.proofs.Facts.{length_up_from, length_owners_on}
-use Rattle.dof_numbering.proofs.ByCell.{met, length_each, get_d_each}
+use Rattle.dof_numbering.proofs.ByCell.{length_each, get_d_each}
 use Rattle.dof_numbering.specs.Walk.{Room, State, cell_dofs, met_again, met_first, seen, slot, state, step, walk}
 
 pub step_first : (st : State) (v : Visit) → seen st v ≡ 0 → step st v ≡ met_first st v

@@ -1,7 +1,6 @@
 -- The visits of a cell: how many there are, what each meets, and where its DOFs stand in the DOF list. Assumes nothing.
-use Prim.Native.Nat.{ℕ, ◌+◌, ◌*◌, ◌-◌, ◌<◌, ◌≤◌}
-use Rattle.std.proofs.Common.{◌∙◌}
-use Rattle.std.specs.Prelude.{◌≡◌, [], ◌∷◌, ◌++◌}
+use Prim.Native.Nat.{ℕ, ◌<◌}
+use Rattle.std.specs.Prelude.{◌≡◌}
 use Rattle.std.proofs.Math.ListN.{length}
 use Rattle.grid.specs.Cells.{before, own}
 use Rattle.function.specs.Elements.{Space}

@@ -2,9 +2,8 @@
 -- the count is written. Where all cells also have the same a and b (`Matched`): that the numbers are those below the count, that two entities never have
 -- the same number, and what the owner record of a DOF says. That no number stands twice in one cell needs a cell whose vertices are distinct, and whose
 -- edges are. Assumes nothing.
-use Prim.Native.Nat.{ℕ, ◌+◌, ◌*◌, ◌-◌, ◌<◌, ◌≤◌}
-use Rattle.std.proofs.Common.{◌∙◌}
-use Rattle.std.specs.Prelude.{◌≡◌, List, [], ◌∷◌, ◌++◌}
+use Prim.Native.Nat.{ℕ, ◌<◌}
+use Rattle.std.specs.Prelude.{◌≡◌, List}
 use Rattle.std.proofs.Math.ListN.{length, get_or}
 
 -- ---- no number stands twice in one cell

@@ -1,7 +1,6 @@
 -- What `assign_dofs` asks; what a visit does to its lists, a walk over visits, and what room it needs; and its loops over entities and over a cell.
 -- Assumes nothing.
-use Rattle.std.specs.Prelude.{ℕ, ◌+◌, ◌*◌, ◌-◌, ◌<◌, ◌≤◌, cond, ◌≡◌, List, [], ◌∷◌, ◌++◌, get_or, set, eqb}
-use Rattle.std.proofs.Common.{◌∙◌}
+use Rattle.std.specs.Prelude.{ℕ, ◌+◌, ◌*◌, ◌-◌, ◌<◌, ◌≤◌, cond, List, [], ◌∷◌, get_or, set, eqb}
 use Rattle.std.proofs.Math.ListN.{length}
 use Rattle.std.proofs.lemmas.List.Edits.{sets}
 use Rattle.grid.specs.Mesh.{most_cells, most_vertices, most_edges}
@@ -9,7 +8,7 @@ use Rattle.function.specs.Elements.{most_dim, cell_dim, Space}
 use Rattle.function.specs.declared.Element.{Element}
 use Rattle.function.specs.declared.Elements.{Elements}
 use Rattle.dof_numbering.specs.declared.Next.{Next}
-use Rattle.dof_numbering.specs.Numbering.{Visit, free, up_from, owners_on, kind}
+use Rattle.dof_numbering.specs.Numbering.{Visit, up_from, owners_on, kind}
 use Rattle.dof_numbering.specs.ByCell.{Filled}
 
 -- ---- what `assign_dofs` asks

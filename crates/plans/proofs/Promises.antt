@@ -1,5 +1,5 @@
 -- The proofs to `specs/Promises.antt`. Assumes nothing.
-use Rattle.std.specs.Prelude.{ℕ, zero, suc, ◌+◌, ◌*◌, ◌≤◌, ◌<◌, ◌≡◌, refl, List, [], ◌∷◌, ◌++◌, length, get_or, drop}
+use Rattle.std.specs.Prelude.{ℕ, zero, suc, ◌+◌, ◌*◌, ◌<◌, ◌≡◌, refl, List, ◌++◌, length, get_or, drop}
 use Rattle.std.proofs.Common.{arith, ap, ◌∙◌, drop_at}
 use Rattle.std.proofs.Math.ListN.{get_or-append}
 use Rattle.lists.specs.Total.{count}

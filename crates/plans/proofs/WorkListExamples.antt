@@ -1,5 +1,5 @@
 -- The proofs to `specs/Examples.antt`. Assumes nothing.
-use Rattle.std.specs.Prelude.{ℕ, ◌+◌, List, [], ◌∷◌, ◌≡◌, refl}
+use Rattle.std.specs.Prelude.{ℕ, List, [], ◌∷◌, ◌≡◌, refl}
 use Rattle.std.proofs.Common.{ap, ap₂, ◌∙◌}
 use Rattle.lists.specs.Examples.{Holds}
 use Rattle.grid.specs.Examples.{mesh_m}

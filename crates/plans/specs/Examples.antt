@@ -1,6 +1,5 @@
 -- M4 and M6 to M8 of the paper, as planning answers them, and several faults at once. Assumes nothing.
-use Rattle.std.specs.Prelude.{ℕ, ◌+◌, List, [], ◌∷◌, ◌≡◌, refl}
-use Rattle.std.proofs.Common.{◌∙◌}
+use Rattle.std.specs.Prelude.{ℕ, ◌+◌, List, [], ◌∷◌, refl}
 use Rattle.lists.specs.Examples.{Example, example, Holds}
 use Rattle.grid.specs.Mesh.{Mesh}
 use Rattle.grid.specs.Examples.{mesh_m, m7_turned, m7_twice, m8_large, edge_shared, five_cells, diagonal, three_shared, quad_twice}

@@ -1,13 +1,11 @@
 -- What is promised of every planning that is accepted, said of what it answers (`plan x l`) and of what stands in the lent lists afterwards (`plan_lists x l`).
 -- Assumes nothing.
-use Rattle.std.specs.Prelude.{ℕ, ◌+◌, ◌*◌, ◌≤◌, ◌<◌, ◌≡◌, true, List, [], ◌∷◌, ◌++◌, length, get_or, drop}
-use Rattle.std.proofs.Common.{◌∙◌}
+use Rattle.std.specs.Prelude.{ℕ, ◌+◌, ◌*◌, ◌≤◌, ◌<◌, ◌≡◌, true, List, [], ◌∷◌, length, get_or, drop}
 use Rattle.lists.specs.Total.{count}
 use Rattle.grid.specs.Cells.{before}
 use Rattle.function.specs.Elements.{cell_dim, Space}
 use Rattle.dof_numbering.specs.Numbering.{visits, dimension_of, entity_of, dofs_on, same_entity, kind, visits_in, visit_of, dof_place}
 use Rattle.function.specs.Colours.{sharing}
-use Rattle.function.proofs.ColoursPromises.{colours_long}
 use Rattle.cell_pairs.specs.Records.{rec, width, records_of}
 use Rattle.cell_pairs.specs.WorkList.{sharing_pairs, distant_pairs}
 use Rattle.cell_pairs.specs.WorkRecords.{of_pair, Distant, Touching}

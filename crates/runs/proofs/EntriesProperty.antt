@@ -1,5 +1,5 @@
 -- The proofs to `specs/EntriesProperty.antt`. Assumes nothing.
-use Rattle.std.specs.Prelude.{◌+◌, ◌*◌, ◌<◌, ◌≤◌, ◌≡◌, take, Float}
+use Rattle.std.specs.Prelude.{◌<◌, ◌≡◌, take, Float}
 use Rattle.std.proofs.Common.{arith, ◌∙◌}
 use Rattle.std.proofs.Math.Path.{refl, sym, ap}
 use Rattle.std.proofs.Math.Bool.{true}

@@ -1,5 +1,5 @@
 -- The proofs to `specs/ThirdProperty.antt`. Assumes nothing.
-use Rattle.std.specs.Prelude.{ℕ, ◌*◌, ◌<◌, ◌≤◌, ◌≡◌, refl, take, Float}
+use Rattle.std.specs.Prelude.{ℕ, ◌*◌, ◌<◌, ◌≡◌, refl, take, Float}
 use Rattle.std.proofs.Math.Nat.{zero-add}
 use Rattle.std.proofs.Common.{arith, ◌∙◌, take_all}
 use Rattle.std.proofs.Math.Path.{sym, ap}

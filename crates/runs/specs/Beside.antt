@@ -1,13 +1,11 @@
 -- The program beside the machine: on any list of calls, along any list of records that is as `Along` asks, begun from planning's numbers, the program's
 -- answers, position, matrix and entry lists are the machine's. Assumes nothing.
-use Prim.Native.Nat.{ℕ, ◌+◌, ◌-◌, ◌*◌, ◌≤◌, ◌<◌}
+use Prim.Native.Nat.{ℕ, ◌*◌, ◌≤◌, ◌<◌}
 use Rattle.std.proofs.Math.Path.{◌≡◌}
-use Rattle.std.proofs.Common.{◌∙◌}
 use Rattle.std.specs.Prelude.{Bool, drop}
 use Rattle.std.proofs.Math.Bool.{true, not}
-use mathlib.Core.List.{List, [], ◌∷◌, ◌++◌}
+use mathlib.Core.List.{List}
 use Rattle.std.proofs.Math.ListN.{length, get_or}
-use Rattle.lists.specs.Bool.{◌and◌, ◌or◌, ◌also◌}
 use Rattle.dof_numbering.specs.Numbering.{dof_list}
 use Rattle.cell_pairs.specs.Patterns.{touch}
 use Rattle.cell_pairs.specs.declared.WorkRecord.{WorkRecord}

@@ -1,6 +1,5 @@
 -- The like of the third property for an entries run: for every planning that is accepted, any three starting lists and every list of calls. Assumes nothing.
 use Rattle.std.specs.Prelude.{ℕ, ◌+◌, ◌*◌, ◌<◌, ◌≤◌, ◌≡◌, cond, get_or, take, eqb, Float}
-use Rattle.std.proofs.Common.{◌∙◌}
 use Rattle.std.proofs.Math.Bool.{true}
 use mathlib.Core.List.{List, flat_map}
 use Rattle.std.proofs.Math.ListN.{length}

@@ -1,6 +1,4 @@
 -- The work list of planning is one that the program can be set beside the machine along; so it is from what planning answers and leaves. Assumes nothing.
-use Rattle.std.specs.Prelude.{◌<◌, ◌≡◌}
-use Rattle.std.proofs.Common.{◌∙◌}
 use Rattle.plans.specs.Planning.{Planning, Lists}
 use Rattle.runs.specs.Runs.{Plan, plan_of}
 

@@ -1,7 +1,6 @@
 -- The third property, for every planning that is accepted, every starting matrix and every list of calls: of the contracts of the calls, folded over the
 -- list from a fresh dense run on the plan that planning leaves. Assumes nothing.
 use Rattle.std.specs.Prelude.{ℕ, ◌*◌, ◌<◌, ◌≤◌, ◌≡◌, cond, take, eqb, Float}
-use Rattle.std.proofs.Common.{◌∙◌}
 use Rattle.std.proofs.Math.Bool.{false}
 use mathlib.Core.List.{List}
 use Rattle.std.proofs.Math.ListN.{length, get_or}

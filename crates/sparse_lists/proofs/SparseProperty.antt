@@ -1,5 +1,5 @@
 -- The proofs to `specs/SparseProperty.antt`. Assumes nothing.
-use Rattle.std.specs.Prelude.{ℕ, ◌+◌, ◌*◌, ◌≤◌, ◌≡◌, Float}
+use Rattle.std.specs.Prelude.{ℕ, ◌*◌, ◌≡◌, Float}
 use Rattle.std.proofs.Common.{arith, ◌∙◌}
 use Rattle.std.proofs.Math.Bool.{true}
 use Rattle.std.proofs.Math.Path.{ap}

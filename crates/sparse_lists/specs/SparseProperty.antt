@@ -1,7 +1,6 @@
 -- Sparse rows of a whole run: for every planning that is accepted, any three starting lists and every list of calls that finishes an entries run.
 -- Assumes nothing.
-use Rattle.std.specs.Prelude.{ℕ, ◌+◌, ◌*◌, ◌≤◌, ◌≡◌, Float}
-use Rattle.std.proofs.Common.{◌∙◌}
+use Rattle.std.specs.Prelude.{ℕ, ◌+◌, ◌≤◌, ◌≡◌, Float}
 use Rattle.std.proofs.Math.Bool.{true}
 use mathlib.Core.List.{List}
 use Rattle.std.proofs.Math.ListN.{length}

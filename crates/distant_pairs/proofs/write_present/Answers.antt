@@ -2,7 +2,6 @@
 use mathlib.Core.Path.{sym, ◌∙◌}
 use Rattle.lists.specs.Writes.{wrote_none}
 use Rattle.distant_pairs.proofs.Facts.{no_test_cells, no_trial_cells}
-use borrow.Author.Rules.{rules}
 use Rattle.distant_pairs.proofs.write_present.Goals as goal
 
 pub returns-then-has_cells-2 : goal.returns-then-has_cells-2

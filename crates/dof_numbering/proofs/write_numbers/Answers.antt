@@ -1,9 +1,7 @@
 -- See Invariants.antt. Assumes nothing.
-use Prim.Native.Nat.{◌≤◌, ◌-◌}
 use native.Mathlib.Omega.{arith}
 use mathlib.Core.Path.{◌≡◌, refl}
-use lib.ListN.{length, length-set}
-use lib.Seq.{sets}
+use lib.ListN.{length-set}
 use Rattle.dof_numbering.specs.Numbering.{up_from}
 use Rattle.dof_numbering.proofs.Walk.{numbers_step}
 use borrow.Author.Rules.{rules}

@@ -2,7 +2,6 @@
 use native.Mathlib.Omega.{arith}
 use mathlib.Core.Path.{sym, ◌∙◌}
 use Rattle.job.proofs.HeadFacts.{head_long, head_cells_lem, head_refused}
-use borrow.Author.Rules.{rules}
 use Rattle.job.proofs.head.read_head.Goals as goal
 
 pub two_at-requires : goal.two_at-requires
