@@ -1,14 +1,11 @@
 -- The theorem on the 27 cases (change 2): they are all the lists of one or two shared vertices that there can be, each once, with the numbers 0 to 26,
 -- and these are the formula's. Assumes nothing.
-use Rattle.std.specs.Prelude.{ℕ, ◌<◌, ◌≡◌, refl, true, ◌⊎◌, List, length}
-use Rattle.std.proofs.Common.{sym, ap, ◌∙◌}
+use Rattle.std.specs.Prelude.{ℕ, ◌<◌, ◌≡◌, true, ◌⊎◌, List, length}
 use Rattle.lists.specs.Refusals.{refusal}
 use Rattle.grid.specs.Mesh.{Mesh, corners, vertex_places, vertices_right, mesh_checks}
 use Rattle.cell_pairs.specs.Matches.{Match, matches, pattern_of}
 use Rattle.cell_pairs.specs.Patterns.{pair_pattern}
 use Rattle.cell_pairs.specs.Cases.{cases, case_at, can_be, Triangle, shared_vertices, two_cells}
-use Rattle.cell_pairs.specs.CasesFacts.{case_number, case_can_be, case_formula, case_occurs, can_be_case, three_at, mesh_counts, mesh_can_be}
-use Rattle.cell_pairs.specs.TableFacts.{case_in_table}
 
 pub record CasesProperty : Type 0 where
   -- numbers 0 to 26: there are 27 cases, and the one at place k has the number k
@@ -35,26 +32,3 @@ pub record CasesProperty : Type 0 where
   pub occurs : (k : ℕ) → k < 27
       → (refusal (mesh_checks (two_cells (case_at k).shared)) ≡ 0)
       × (matches (corners (two_cells (case_at k).shared) 0) (corners (two_cells (case_at k).shared) 1) ≡ (case_at k).shared)
-
--- the pattern of two triangles that share one or two vertices is the formula's number
-formula_number_lem : (m : Mesh) → vertex_places m ≡ true → vertices_right m ≡ true → (i j : ℕ) → Triangle m i → Triangle m j → can_be (matches (corners m i) (corners m j)) ≡ true
-    → pair_pattern m i j ≡ pattern_of (matches (corners m i) (corners m j))
-formula_number_lem m p e i j hi hj c = rw (three_at m p e i j hi hj i hi, three_at m p e i j hi hj j hj) (case_in_table _ c)
-
-pub cases_property : CasesProperty
-cases_property =
-    record {
-      many = refl;
-      numbers = case_number;
-      all = λ ms e. let f = can_be_case ms e in (pattern_of ms, f.0, f.1);
-      no_other = case_can_be;
-      once = λ k l hk hl e. sym (case_formula k hk) ∙ ap pattern_of e ∙ case_formula l hl;
-      formula = λ k h. case_number k h ∙ sym (case_formula k h);
-      counted = mesh_counts;
-      meshes = λ m p e i j hi hj s.
-          let c = mesh_can_be m p e i j hi hj s in
-          let f = can_be_case (matches (corners m i) (corners m j)) c in
-          let n = formula_number_lem m p e i j hi hj c in
-          (c, rw n f.0, rw n f.1, n);
-      occurs = case_occurs;
-    }

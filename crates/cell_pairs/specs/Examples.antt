@@ -1,7 +1,6 @@
 -- M4, M5 and M7 of the paper, as records, and the pairs of small meshes with quads. (The text that `worklist` prints of the paper's is in `worklist_text`.) Assumes
 -- nothing.
-use Rattle.std.specs.Prelude.{ℕ, ◌≡◌, refl, true, false, List, [], ◌∷◌, ◌++◌}
-use Rattle.std.proofs.Common.{ap}
+use Rattle.std.specs.Prelude.{ℕ, refl, true, false, List, [], ◌∷◌}
 use Rattle.lists.specs.Examples.{Example, example, Holds}
 use Rattle.grid.specs.Mesh.{Mesh}
 use Rattle.grid.specs.Examples.{mesh_m, m7_turned, m7_twice, edge_shared, diagonal, three_shared, quad_twice, quad_turned}
@@ -26,34 +25,17 @@ records m B =
     let space : Space = record { kinds = m.kinds; cell_vertices = m.cell_vertices; cell_edges = m.cell_edges; elements = alike (element 1 0 0) } in
     work_list m B (colour_list space m.cells) (colour_list space m.cells)
 
--- the touching part of M, computed once
-m_touching : touching_part mesh_m ≡ rec 11 0 1 ∷ rec 15 1 0 ∷ rec 27 0 0 ∷ rec 27 1 1 ∷ rec 27 2 2 ∷ []
-unfolding opened_cell_pairs
-m_touching = refl
-
-pub m_work : (B : ℕ) (ts rs : List ℕ) → work_list mesh_m B ts rs ≡ distant_part mesh_m B ts rs ++ (rec 11 0 1 ∷ rec 15 1 0 ∷ rec 27 0 0 ∷ rec 27 1 1 ∷ rec 27 2 2 ∷ [])
-unfolding work_list
-m_work B ts rs = ap (λ (l : List WorkRecord). distant_part mesh_m B ts rs ++ l) m_touching
-
 -- M4: both elements a = 1, batch 2
 abbrev pub m4_records : Example
 m4_records =
     example (records mesh_m 2)
     (rec 255 2 0 ∷ rec 255 0 2 ∷ rec 255 2 1 ∷ rec 255 1 2 ∷ rec 11 0 1 ∷ rec 15 1 0 ∷ rec 27 0 0 ∷ rec 27 1 1 ∷ rec 27 2 2 ∷ [])
 
-pub m4_records_holds : Holds m4_records
-unfolding opened_cell_pairs
-m4_records_holds = m_work 2 (0 ∷ 1 ∷ 0 ∷ []) (0 ∷ 1 ∷ 0 ∷ [])
-
 -- M5: batch 1: the first two trade places
 abbrev pub m5_records : Example
 m5_records =
     example (records mesh_m 1)
     (rec 255 0 2 ∷ rec 255 2 0 ∷ rec 255 2 1 ∷ rec 255 1 2 ∷ rec 11 0 1 ∷ rec 15 1 0 ∷ rec 27 0 0 ∷ rec 27 1 1 ∷ rec 27 2 2 ∷ [])
-
-pub m5_records_holds : Holds m5_records
-unfolding opened_cell_pairs
-m5_records_holds = m_work 1 (0 ∷ 1 ∷ 0 ∷ []) (0 ∷ 1 ∷ 0 ∷ [])
 
 -- M7, twice: a = 1, batch 1: four records of 27
 abbrev pub m7_records : Example

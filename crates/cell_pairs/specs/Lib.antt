@@ -22,10 +22,3 @@ pub mod CellGroups
 pub mod RecordsFacts
 pub mod SharedVertices
 pub mod MatchesFacts
-pub mod CasesFacts
-pub mod TableFacts
-pub mod CellGroupsFacts
-pub mod WorkRecordsFacts
-pub mod CountingFacts
-pub mod CoincidentFacts
-pub mod BlocksFacts

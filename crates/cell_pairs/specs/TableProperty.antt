@@ -4,7 +4,6 @@ use Rattle.std.specs.Prelude.{ℕ, ◌<◌, ◌≡◌, true, cond, List, ◌++�
 use Rattle.cell_pairs.specs.Matches.{Match, pattern_of}
 use Rattle.cell_pairs.specs.Cases.{case_at}
 use Rattle.cell_pairs.specs.Table.{pattern, table, pattern_at, from_to, number_of, block, formula_number, of_two_triangles}
-use Rattle.cell_pairs.specs.TableFacts.{table_many, table_blocks, table_places, table_formula, table_once, table_triangles, table_cases, triangles_number}
 
 pub record TableProperty : Type 0 where
   pub many : length table ≡ 149
@@ -23,16 +22,3 @@ pub record TableProperty : Type 0 where
   -- and nothing else of two triangles has a number: whatever they share, their number in the table is the triangle formula's where this is below 28, and
   -- none (149) where it is not
   pub numbers : (ms : List Match) → of_two_triangles ms ≡ true → number_of (pattern 3 3 ms) ≡ cond (ltb (pattern_of ms) 28) (pattern_of ms) 149
-
-pub table_property : TableProperty
-table_property =
-    record {
-      many = table_many;
-      blocks = table_blocks;
-      places = table_places;
-      formula = table_formula;
-      once = table_once;
-      triangles = table_triangles;
-      cases = table_cases;
-      numbers = triangles_number;
-    }

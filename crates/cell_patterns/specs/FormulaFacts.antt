@@ -12,7 +12,7 @@ use Rattle.grid.specs.Cells.{ends_of, edge_joining}
 use Rattle.cell_pairs.specs.Records.{pattern_count}
 use Rattle.cell_pairs.specs.Matches.{Match}
 use Rattle.cell_pairs.specs.Table.{Pattern, pattern, number_of, block_start, in_block, formula_number}
-use Rattle.cell_pairs.specs.TableFacts.{number_by_formula}
+use Rattle.cell_pairs.proofs.TableFacts.{number_by_formula}
 use Rattle.pattern_table.specs.Numbers.{code_on, code_of, code_at}
 use Rattle.cell_patterns.specs.Shared.{listed}
 use Rattle.cell_patterns.specs.TableRows.{Decimal, row_same}

@@ -9,7 +9,7 @@ use Rattle.cell_pairs.specs.Records.{pattern_count}
 use Rattle.cell_pairs.specs.Matches.{Match, ◌↔◌}
 use Rattle.cell_pairs.specs.MatchesFacts.{joined}
 use Rattle.cell_pairs.specs.Table.{Pattern, pattern, table, pattern_at, same}
-use Rattle.cell_pairs.specs.TableFacts.{built, same_eq, eq_same}
+use Rattle.cell_pairs.proofs.TableFacts.{built, same_eq, eq_same}
 use Rattle.pattern_table.specs.Numbers.{code_on, code_of, table_rows, code_at}
 use Rattle.cell_patterns.specs.Shared.{listed}
 use Rattle.cell_patterns.specs.SharedFacts.{Small, length_listed}

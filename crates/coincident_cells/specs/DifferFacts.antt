@@ -12,7 +12,7 @@ use Rattle.grid.specs.RowsFacts.{cell_length, cell_entity, cell_in_row}
 use Rattle.cells_by_key.specs.Groups.{cells_with, from, part, Cells, ByEntity}
 use Rattle.cells_by_key.specs.GroupsFacts.{grouped_each, grouped_bounds, entity_bounds, group_place, group_cells}
 use Rattle.cell_pairs.specs.Patterns.{same_vertices}
-use Rattle.cell_pairs.specs.CoincidentFacts.{same_has}
+use Rattle.cell_pairs.proofs.CoincidentFacts.{same_has}
 use Rattle.coincident_cells.specs.Differ.{earlier}
 
 -- ---- the same vertices, by two searches

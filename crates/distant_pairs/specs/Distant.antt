@@ -1,7 +1,7 @@
 -- The distant part of the work list, level by level, over cells that are laid out by kind and colour: a list of cells, `order`, and where each group of it
 -- ends, `ends`. Its first half are the groups of the triangles, colour by colour, the second half those of the quads. `Facts` says that this is `distant_part`
 -- of the work list. Assumes nothing.
-use Rattle.std.specs.Prelude.{◌≡◌, Bool, cond, ℕ, ◌+◌, ◌*◌, ◌/◌, length, eqb, ltb}
+use Rattle.std.specs.Prelude.{◌≡◌, Bool, ℕ, ◌+◌, ◌*◌, ◌/◌, length, ltb}
 use mathlib.Core.List.{List, [], ◌∷◌, flat_map}
 use Rattle.lists.specs.Range.{range, batch}
 use Rattle.grid.specs.Cells.{share as share_number}

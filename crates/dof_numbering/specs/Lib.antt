@@ -2,8 +2,6 @@
 -- `ByCell`, `Walk`, `WholeWalk`.
 pub mod Numbering
 pub mod Examples
-pub mod Facts
 pub mod ByCell
 pub mod Walk
-pub mod WholeWalk
 pub mod Promises

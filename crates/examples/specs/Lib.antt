@@ -7,8 +7,10 @@ use Rattle.dof_numbering.specs.Examples.{m1_dofs, m2_dofs, m2_owners, m2_count, 
 use Rattle.integrands.specs.Examples.{f3, f4, f3_holds, f4_holds, double, normals, factor, two, one, double_holds, normals_hold, factor_holds, two_holds, one_holds}
 use Rattle.lent_numbers.specs.Examples.{f1, f2, f1_rounded, f2_rounded, f1_holds, f2_holds, f1_rounded_holds, f2_rounded_holds, two_points, four_pairs, point_order, two_points_hold, four_pairs_hold, point_order_holds}
 use Rattle.scatter.specs.Examples.{added, rows_columns, values, added_holds, rows_columns_hold, values_hold}
-use Rattle.cell_pairs.specs.Examples.{m4_records, m5_records, m7_records, m4_records_holds, m5_records_holds, m7_records_holds, patterns, patterns_hold, mixed_records, mixed_records_holds, quad_patterns, edge_shared_records, edge_shared_counts, diagonal_refused, quad_patterns_hold, edge_shared_records_hold, edge_shared_counts_hold, diagonal_refused_holds}
-use Rattle.plans.specs.Examples.{m_planned, m_sizes, m6, m7, m7_work, m8, work_lists, first_fault, m_planned_holds, m_sizes_holds, m6_holds, m7_holds, m7_work_holds, m8_holds, work_lists_hold, first_fault_holds, quads_planned, kinds_refused, elements_refused, five_numbers, edge_shared_lists, quads_planned_hold, kinds_refused_hold, elements_refused_hold, five_numbers_hold, edge_shared_lists_hold}
+use Rattle.cell_pairs.specs.Examples.{m4_records, m5_records, m7_records, m7_records_holds, patterns, patterns_hold, mixed_records, mixed_records_holds, quad_patterns, edge_shared_records, edge_shared_counts, diagonal_refused, quad_patterns_hold, edge_shared_records_hold, edge_shared_counts_hold, diagonal_refused_holds}
+use Rattle.cell_pairs.proofs.WorkExamples.{m4_records_holds, m5_records_holds}
+use Rattle.plans.specs.Examples.{m_planned, m_sizes, m6, m7, m7_work, m8, work_lists, first_fault, m_planned_holds, m_sizes_holds, m6_holds, m7_holds, m7_work_holds, m8_holds, first_fault_holds, quads_planned, kinds_refused, elements_refused, five_numbers, edge_shared_lists, quads_planned_hold, kinds_refused_hold, elements_refused_hold, five_numbers_hold, edge_shared_lists_hold}
+use Rattle.plans.proofs.WorkListExamples.{work_lists_hold}
 use Rattle.runs.specs.Examples.{first_look, looks_answered, adds_answered, first_look_holds, looks_answered_hold, adds_answered_hold, mixed_looked, mixed_places, mixed_entered, absent_unread, mixed_looked_holds, mixed_places_hold, mixed_entered_holds, absent_unread_holds}
 use Rattle.job.specs.Examples.{m4_read, m4_lists, read_numbers, m4_read_holds, m4_lists_hold, read_numbers_hold}
 use Rattle.worklist_text.specs.Examples.{m4, m5, m7_twice_text, refused_texts, m4_holds, m5_holds, m7_twice_text_holds, refused_texts_hold}

@@ -3,5 +3,4 @@
 pub mod Job
 pub mod Head
 pub mod JobFacts
-pub mod HeadFacts
 pub mod Examples

@@ -16,14 +16,15 @@ use Rattle.cell_pairs.specs.Records.{width, flat}
 use Rattle.cell_pairs.specs.RecordsFacts.{records, length_flat}
 use Rattle.cell_pairs.specs.Patterns.{patterns_right}
 use Rattle.cell_pairs.specs.WorkList.{most_batch, distant_part, touching_part, work_list, sharing_pairs, sharing_of, distant_pairs}
-use Rattle.cell_pairs.specs.Counting.{Countable, split, kinds_split, length_distant, length_touching, length_work}
-use Rattle.cell_pairs.specs.CellGroupsFacts.{colour_below}
+use Rattle.cell_pairs.specs.Counting.{Countable}
+use Rattle.cell_pairs.proofs.Counting.{split, kinds_split, length_distant, length_touching, length_work}
+use Rattle.cell_pairs.proofs.CellGroupsFacts.{colour_below}
 use Rattle.cell_patterns.specs.Flat.{patterns_in}
 use Rattle.cell_patterns.specs.PatternFacts.{mesh_patterns}
 use Rattle.cells_by_key.specs.Groups.{kind_key, ByKind, cells_with, Grouped, Cut, Below, Zeros}
 use Rattle.cells_by_key.specs.GroupsFacts.{kind_keys_below, scratch, scratch_zeros}
 use Rattle.distant_pairs.specs.Distant.{distant_parts}
-use Rattle.distant_pairs.specs.Facts.{ByColour, by_colour, by_colour_cut, distant_is}
+use Rattle.distant_pairs.proofs.Facts.{ByColour, by_colour, by_colour_cut, distant_is}
 use Rattle.touching_pairs.specs.declared.TouchingEnds.{TouchingEnds}
 use Rattle.touching_pairs.specs.Visits.{bare, Touchable, EndsAt}
 use Rattle.touching_pairs.specs.BareFacts.{touching_rows, sharing_rows, touchable_rows}

@@ -12,12 +12,13 @@ use Rattle.function.specs.Elements.{cell_dim, most_dim, elements_right, dims_rig
 use Rattle.function.specs.ElementsFacts.{dim_within, same_vertices_holds, same_edges}
 use Rattle.dof_numbering.specs.Numbering.{dof_list, dof_count}
 use Rattle.dof_numbering.specs.ByCell.{Filled, Matched}
-use Rattle.dof_numbering.specs.Promises.{dof_list_length, dof_count_le, dof_below}
+use Rattle.dof_numbering.proofs.Promises.{dof_list_length, dof_count_le, dof_below}
 use Rattle.function.specs.Colours.{colour_list}
 use Rattle.function.proofs.ColoursPromises.{colours_long}
 use Rattle.integrands.specs.Terms.{integrand_right}
 use Rattle.cell_pairs.specs.Patterns.{patterns_right}
-use Rattle.cell_pairs.specs.Counting.{Countable, countable}
+use Rattle.cell_pairs.specs.Counting.{Countable}
+use Rattle.cell_pairs.proofs.Counting.{countable}
 use Rattle.plans.specs.declared.PlanNumbers.{PlanNumbers}
 use Rattle.plans.specs.declared.Planned.TheVariants.{Ready as ready}
 use Rattle.plans.specs.Planning.{Planning, Lists, batch_right, lengths_right, plan_checks, plan_refusal, plan_numbers, plan_answer, plan, places_on, elements_fit, space_on, test_space, trial_space}

@@ -1,6 +1,5 @@
 -- M4 and M6 to M8 of the paper, as planning answers them, and several faults at once. Assumes nothing.
-use Rattle.std.specs.Prelude.{ℕ, ◌+◌, List, [], ◌∷◌, ◌≡◌, refl}
-use Rattle.std.proofs.Common.{ap, ap₂, ◌∙◌}
+use Rattle.std.specs.Prelude.{ℕ, ◌+◌, List, [], ◌∷◌, refl}
 use Rattle.lists.specs.Examples.{Example, example, Holds}
 use Rattle.grid.specs.Mesh.{Mesh}
 use Rattle.grid.specs.Examples.{mesh_m, m7_turned, m7_twice, m8_large, edge_shared, five_cells, diagonal, three_shared, quad_twice}
@@ -10,11 +9,11 @@ use Rattle.dof_numbering.specs.Examples.{opened_dofs}
 use Rattle.integrands.specs.declared.Term.TheVariants.{Bare}
 use Rattle.integrands.specs.Examples.{opened_integrands}
 use Rattle.cell_pairs.specs.Records.{rec, flat}
-use Rattle.cell_pairs.specs.Examples.{opened_cell_pairs, m_work}
+use Rattle.cell_pairs.specs.Examples.{opened_cell_pairs}
 use Rattle.plans.specs.declared.PlanNumbers.{PlanNumbers}
 use Rattle.plans.specs.declared.Planned.{Planned}
 use Rattle.plans.specs.declared.Planned.TheVariants.{Ready as ready, Refused as refused}
-use Rattle.plans.specs.Planning.{Planning, Lists, lists_of, lists_for, batch_right, lengths_right, plan_refusal, plan_numbers, plan, planned_number, written_lists, plan_lists, work_records}
+use Rattle.plans.specs.Planning.{Planning, Lists, lists_of, lists_for, batch_right, lengths_right, plan_refusal, plan_numbers, plan, planned_number, written_lists, plan_lists}
 
 -- opens the definitions of this crate and of those below it
 unfoldable pub opened_plans : Unit {0}
@@ -67,7 +66,7 @@ unfolding opened_plans
 m_sizes_holds = refl
 
 -- M with one DOF a vertex for test and one a cell for trial
-abbrev cell_trial : ℕ → Planning
+abbrev pub cell_trial : ℕ → Planning
 cell_trial B = record { mesh = mesh_m; test = elements 1 0 0 0; trial = elements 0 0 1 0; batch = B; integrand = (vertex_dofs mesh_m 1).integrand }
 
 -- M4 as planning leaves it in the work list, and the like with one DOF a cell for trial, whose colours are 0, 0, 0
@@ -79,26 +78,6 @@ work_lists =
     (flat (rec 255 2 0 ∷ rec 255 0 2 ∷ rec 255 2 1 ∷ rec 255 1 2 ∷ rec 11 0 1 ∷ rec 15 1 0 ∷ rec 27 0 0 ∷ rec 27 1 1 ∷ rec 27 2 2 ∷ [])
     ∷ flat (rec 255 2 0 ∷ rec 255 2 1 ∷ rec 255 0 2 ∷ rec 255 1 2 ∷ rec 11 0 1 ∷ rec 15 1 0 ∷ rec 27 0 0 ∷ rec 27 1 1 ∷ rec 27 2 2 ∷ [])
     ∷ [])
-
--- what planning leaves in the work list, where nothing turns it down
-left : (x : Planning) (l : Lists) → plan_refusal x l ≡ 0 → (plan_lists x l).work ≡ flat (work_records x)
-unfolding plan_lists written_lists
-left x l e = rw e
-
-m_accepted : plan_refusal (vertex_dofs mesh_m 2) (lists_for (vertex_dofs mesh_m 2)) ≡ 0
-unfolding opened_plans
-m_accepted = refl
-
-m_accepted_by_cells : plan_refusal (cell_trial 2) (lists_for (cell_trial 2)) ≡ 0
-unfolding opened_plans
-m_accepted_by_cells = refl
-
-pub work_lists_hold : Holds work_lists
-unfolding opened_plans
-work_lists_hold =
-    ap₂ (λ (v w : List ℕ). v ∷ w ∷ [])
-    (left (vertex_dofs mesh_m 2) (lists_for (vertex_dofs mesh_m 2)) m_accepted ∙ ap flat (m_work 2 (0 ∷ 1 ∷ 0 ∷ []) (0 ∷ 1 ∷ 0 ∷ [])))
-    (left (cell_trial 2) (lists_for (cell_trial 2)) m_accepted_by_cells ∙ ap flat (m_work 2 (0 ∷ 1 ∷ 0 ∷ []) (0 ∷ 0 ∷ 0 ∷ [])))
 
 -- the first check that fails answers: an element without DOFs and batch 0, 4; and M with a work list of no length, 8
 abbrev pub first_fault : Example

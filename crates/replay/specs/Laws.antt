@@ -17,7 +17,8 @@ use Rattle.runs.specs.Runs.{Run, Plan, EntryLists, Reply, Answer, found, accepte
 use Rattle.runs.specs.Calls.{Call, looks, adds_distant, adds_touching, adds_entries, Progress, reply_to, matrix_after, lists_after, call, call_all}
 use Rattle.runs.specs.Machine.{machine_of, machine_run}
 use Rattle.runs.specs.Beside.{embed}
-use Rattle.runs.specs.Listed.{plan_in, machine_beside}
+use Rattle.runs.specs.Listed.{plan_in}
+use Rattle.runs.proofs.Listed.{machine_beside}
 use Rattle.replay.specs.Encoding.{list_in, distant_in, touching_in, call_of, call_at, calls_of, call_count, answer_numbers, put_answers}
 use Rattle.replay.specs.Replay.{Outcome, played, refused as not_played, outcome, replayed, replayed_matrix, replayed_lists, replayed_answers}
 

@@ -7,8 +7,10 @@ use Rattle.plans.specs.Accepted.{ready_is}
 use Rattle.runs.specs.Runs.{EntryLists}
 use Rattle.runs.specs.Calls.{Call, Progress}
 use Rattle.runs.specs.Beside.{embed}
-use Rattle.runs.specs.ThirdProperty.{ThirdProperty, property}
-use Rattle.runs.specs.EntriesProperty.{EntriesProperty, property as entries_of_lem}
+use Rattle.runs.specs.ThirdProperty.{ThirdProperty}
+use Rattle.runs.proofs.ThirdProperty.{property}
+use Rattle.runs.specs.EntriesProperty.{EntriesProperty}
+use Rattle.runs.proofs.EntriesProperty.{property as entries_of_lem}
 use Rattle.replay.specs.Encoding.{put_answers}
 use Rattle.replay.specs.Replay.{played, outcome, ended, replayed, replayed_matrix, replayed_lists, replayed_answers}
 

@@ -10,7 +10,5 @@ pub mod CellDofs
 pub mod Beside
 pub mod Listed
 pub mod Reading
-pub mod ReadingFacts
 pub mod ThirdProperty
-pub mod EntriesFacts
 pub mod EntriesProperty

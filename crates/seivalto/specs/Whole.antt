@@ -8,13 +8,17 @@ use Rattle.lists.specs.Fold.{over_agree}
 use Rattle.grid.specs.Mesh.{Mesh}
 use Rattle.plans.specs.declared.Planned.TheVariants.{Ready as ready}
 use Rattle.plans.specs.Planning.{Planning, Lists, planning_of, plan_refusal, plan_answer, plan, plan_numbers, plan_lists}
-use Rattle.plans.specs.Promises.{Promised, promised}
+use Rattle.plans.specs.Promises.{Promised}
+use Rattle.plans.proofs.Promises.{promised}
 use Rattle.runs.specs.Runs.{Run, Plan, EntryLists, Answer, begin, begin_entries, record_of, look_refusal, distant_refusal, touching_refusal, entries_refusal, look, add_distant, add_touching, add_entries}
 use Rattle.runs.specs.Calls.{Call, looks, adds_distant, adds_touching, adds_entries, Progress, reply_to, matrix_after, lists_after, call, call_all}
 use Rattle.runs.specs.Listed.{plan_in}
-use Rattle.runs.specs.ThirdProperty.{ThirdProperty, third_property}
-use Rattle.runs.specs.EntriesProperty.{EntriesProperty, entries_property}
-use Rattle.sparse_lists.specs.SparseProperty.{SparseProperty, sparse_of}
+use Rattle.runs.specs.ThirdProperty.{ThirdProperty}
+use Rattle.runs.proofs.ThirdProperty.{third_property}
+use Rattle.runs.specs.EntriesProperty.{EntriesProperty}
+use Rattle.runs.proofs.EntriesProperty.{entries_property}
+use Rattle.sparse_lists.specs.SparseProperty.{SparseProperty}
+use Rattle.sparse_lists.proofs.SparseProperty.{sparse_of}
 use Rattle.function.specs.declared.Elements.{Elements}
 use Rattle.c_forms.specs.declared.CIntegrand.{CIntegrand}
 use Rattle.c_forms.specs.declared.CPlanned.{CPlanned}

@@ -2,8 +2,5 @@
 -- `RunFacts` are for its proof.
 pub mod Sparse
 pub mod Examples
-pub mod Laws
 pub mod Pairs
-pub mod BlockFacts
-pub mod RunFacts
 pub mod SparseProperty

@@ -13,9 +13,9 @@ use Rattle.cell_pairs.specs.Matches.{Match, triangle_count, pattern_of}
 use Rattle.cell_pairs.specs.Patterns.{cells_pattern}
 use Rattle.cell_pairs.specs.Cases.{can_be}
 use Rattle.cell_pairs.specs.Table.{pattern, number_of, of_two_triangles}
-use Rattle.cell_pairs.specs.TableFacts.{triangles_number}
+use Rattle.cell_pairs.proofs.TableFacts.{triangles_number}
 use Rattle.cell_pairs.specs.MatchesFacts.{Lone, lone, first_of, place, Places, places_of, matches_at, at_by, matches_at_lem, has_is_place}
-use Rattle.cell_pairs.specs.CasesFacts.{can_be_case, few_can_be}
+use Rattle.cell_pairs.proofs.CasesFacts.{can_be_case, few_can_be}
 use Rattle.triangle_patterns.specs.Triangles.{three, cells_right}
 
 -- ---- places

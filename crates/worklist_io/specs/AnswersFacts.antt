@@ -3,7 +3,7 @@ use Rattle.std.specs.Prelude.{ℕ, ◌+◌, ◌*◌, ◌≤◌, ◌<◌, ◌≡�
 use Rattle.std.proofs.Common.{arith, sym, ap, ◌∙◌, length-take-le, take_all, take_at, take-take}
 use Rattle.job.specs.Head.{read_head, head_number, Says, size_refusal}
 use Rattle.job.specs.Job.{most_worklist_cells}
-use Rattle.job.specs.HeadFacts.{head_alone, says_long, enough_seven}
+use Rattle.job.proofs.HeadFacts.{head_alone, says_long, enough_seven}
 use Rattle.worklist_text.specs.Text.{refused_line, worklist}
 use Rattle.worklist_text.specs.PlannedText.{Printed}
 use Rattle.worklist_text.specs.WorklistFacts.{head_wrong_text, head_large_text}

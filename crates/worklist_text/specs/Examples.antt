@@ -5,7 +5,8 @@ use mathlib.Core.List.{List, [], ◌∷◌, ◌++◌, flat_map}
 use Rattle.lists.specs.Examples.{Example, example, Holds}
 use Rattle.grid.specs.Mesh.{Mesh, triangles}
 use Rattle.grid.specs.Examples.{mesh_m, m7_turned, m7_twice}
-use Rattle.cell_pairs.specs.Examples.{m4_records_holds, m5_records_holds, m7_records_holds}
+use Rattle.cell_pairs.specs.Examples.{m7_records_holds}
+use Rattle.cell_pairs.proofs.WorkExamples.{m4_records_holds, m5_records_holds}
 use Rattle.plans.specs.Planning.{work_records}
 use Rattle.plans.specs.Examples.{opened_plans}
 use Rattle.job.specs.Examples.{opened_job}

@@ -19,8 +19,8 @@ use Rattle.integrands.specs.Terms.{integrand_right}
 use Rattle.cell_pairs.specs.Patterns.{patterns_right}
 use Rattle.cell_pairs.specs.WorkList.{work_list}
 use Rattle.cell_pairs.specs.WorkRecords.{Distant, Touching}
-use Rattle.cell_pairs.specs.WorkRecordsFacts.{distant_each, touching_each}
-use Rattle.cell_pairs.specs.Counting.{length_work}
+use Rattle.cell_pairs.proofs.WorkRecordsFacts.{distant_each, touching_each}
+use Rattle.cell_pairs.proofs.Counting.{length_work}
 use Rattle.plans.specs.declared.Planned.{Planned}
 use Rattle.plans.specs.declared.PlanNumbers.{PlanNumbers}
 use Rattle.plans.specs.declared.Planned.TheVariants.{Ready as ready, Refused as refused}

@@ -14,7 +14,7 @@ use Rattle.job.specs.declared.JobRead.TheVariants.{Whole, Refused}
 use Rattle.job.specs.Job.{most_worklist_cells, job_checks, job_refusal, read_job, vertex_list_of, edge_list_of}
 use Rattle.job.specs.JobFacts.{read_numbers, read_refusal, limited_small, take_vertices, take_edges}
 use Rattle.job.specs.Head.{read_head, head_number, Says, size_refusal, enough_bytes}
-use Rattle.job.specs.HeadFacts.{head_alone, enough_seven, head_wrong, head_size, size_refused, head_longer}
+use Rattle.job.proofs.HeadFacts.{head_alone, enough_seven, head_wrong, head_size, size_refused, head_longer}
 use Rattle.worklist_text.specs.Text.{refused_line, numbers_planning, job_planning, worklist_refusal, text_answer, worklist}
 use Rattle.worklist_text.specs.TextFacts.{refused_short}
 use Rattle.worklist_text.specs.PlannedText.{answer_text, planned_text, right_text, most_text, Printed}

@@ -2,7 +2,6 @@
 use native.Mathlib.Omega.{arith}
 use lib.ListN.{length-set}
 use Rattle.cell_pairs.specs.RecordsFacts.{wrote_record}
-use borrow.Author.Rules.{rules}
 use Rattle.cell_pairs.proofs.put_record.Goals as goal
 
 pub bounds-work-start-2 : goal.bounds-work-start-2

@@ -1,6 +1,5 @@
 -- `distant_pairs::batch_of` meets its contract: the part of the slice is the batch, whole or cut short at the end. Assumes nothing.
 use Rattle.lists.specs.Range.{batch_last, batch_whole}
-use borrow.Author.Rules.{rules}
 use Rattle.distant_pairs.proofs.batch_of.Goals as goal
 
 pub returns-then-cells-lo : goal.returns-then-cells-lo

@@ -2,8 +2,7 @@
 use native.Mathlib.Omega.{arith}
 use lib.ListN.{length}
 use Rattle.distant_pairs.specs.Distant.{has_cells}
-use Rattle.distant_pairs.specs.Facts.{kind_first}
-use borrow.Author.Rules.{rules}
+use Rattle.distant_pairs.proofs.Facts.{kind_first}
 use Rattle.distant_pairs.proofs.has_cells.Goals as goal
 
 pub overflow_mul-first : goal.overflow_mul-first

@@ -4,7 +4,6 @@ use Rattle.lists.specs.Bool.{◌or◌}
 use Rattle.lists.specs.Bounded.{some}
 use Rattle.grid.specs.Cells.{has, share}
 use Rattle.distant_pairs.specs.Distant.{has_one_of}
-use borrow.Author.Rules.{rules}
 use Rattle.distant_pairs.proofs.has_one_of.Goals as goal
 
 pub returns : goal.returns

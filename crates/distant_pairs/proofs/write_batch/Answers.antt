@@ -1,11 +1,8 @@
 -- See Invariants.antt. Assumes nothing.
-use Prim.Native.Nat.{◌-◌}
 use native.Mathlib.Omega.{arith}
-use Rattle.lists.specs.Writes.{Each, each_start, each_in, each_room, each_turn, each_done, wrote_length}
-use Rattle.cell_pairs.specs.RecordsFacts.{records}
+use Rattle.lists.specs.Writes.{each_start, each_in, each_room, each_turn, each_done}
 use Rattle.cell_pairs.specs.WorkList.{distant_batch}
 use Rattle.distant_pairs.specs.Distant.{distant_row}
-use borrow.Author.Rules.{rules}
 use Rattle.distant_pairs.proofs.write_batch.Goals as goal
 
 pub loop-k-init : goal.loop-k-init

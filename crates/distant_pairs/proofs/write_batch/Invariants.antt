@@ -1,9 +1,7 @@
 -- `distant_pairs::write_batch` meets its contract. The invariant of its loop: the records of the first k trial cells are written. Assumes nothing.
 use Prim.Native.Nat.{◌-◌}
-use native.Mathlib.Omega.{arith}
-use Rattle.lists.specs.Writes.{Each, each_start, each_in, each_room, each_turn, each_done, wrote_length}
+use Rattle.lists.specs.Writes.{Each}
 use Rattle.cell_pairs.specs.RecordsFacts.{records}
-use Rattle.cell_pairs.specs.WorkList.{distant_batch}
 use Rattle.distant_pairs.specs.Distant.{distant_row}
 use Rattle.distant_pairs.proofs.write_batch.Given as goal
 

@@ -1,15 +1,12 @@
 -- See Invariants.antt. Assumes nothing.
-use Prim.Native.Nat.{◌-◌, ◌<◌}
+use Prim.Native.Nat.{◌<◌}
 use native.Mathlib.Omega.{arith}
 use lib.ListN.{length}
-use Rattle.lists.specs.Range.{batch}
-use Rattle.lists.specs.Writes.{Turns, turns_start, turns_room, turns_turn, turns_done, wrote_length}
-use Rattle.cell_pairs.specs.RecordsFacts.{records}
+use Rattle.lists.specs.Writes.{turns_start, turns_room, turns_turn, turns_done}
 use Rattle.cells_by_key.specs.GroupsFacts.{cells_batch}
 use Rattle.cell_pairs.specs.WorkList.{distant_colours}
 use Rattle.distant_pairs.specs.Distant.{distant_trials}
-use Rattle.distant_pairs.specs.Facts.{batch_count, batch_one, batch_few, batch_past, batch_begins}
-use borrow.Author.Rules.{rules}
+use Rattle.distant_pairs.proofs.Facts.{batch_count, batch_one, batch_few, batch_past, batch_begins}
 use Rattle.distant_pairs.proofs.write_colours.Goals as goal
 use Rattle.distant_pairs.proofs.write_colours.Goals.{In-loop-b}
 

@@ -1,14 +1,11 @@
 -- `distant_pairs::write_colours` meets its contract. The invariant of its loop: the records of the first b batches are written. Assumes nothing.
-use Prim.Native.Nat.{◌-◌, ◌<◌}
-use native.Mathlib.Omega.{arith}
+use Prim.Native.Nat.{◌-◌}
 use lib.ListN.{length}
 use Rattle.lists.specs.Range.{batch}
-use Rattle.lists.specs.Writes.{Turns, turns_start, turns_room, turns_turn, turns_done, wrote_length}
+use Rattle.lists.specs.Writes.{Turns}
 use Rattle.cell_pairs.specs.RecordsFacts.{records}
-use Rattle.cells_by_key.specs.GroupsFacts.{cells_batch}
-use Rattle.cell_pairs.specs.WorkList.{distant_colours}
 use Rattle.distant_pairs.specs.Distant.{distant_trials}
-use Rattle.distant_pairs.specs.Facts.{batch_count, batch_one, batch_few, batch_past, batch_begins}
+use Rattle.distant_pairs.proofs.Facts.{batch_count}
 use Rattle.distant_pairs.proofs.write_colours.Given as goal
 
 abbrev pub invariant-loop-b : goal.invariant-loop-b

@@ -1,10 +1,7 @@
 -- See Invariants.antt. Assumes nothing.
-use Prim.Native.Nat.{◌-◌}
 use native.Mathlib.Omega.{arith}
-use Rattle.lists.specs.Writes.{Turns, turns_start, turns_room, turns_turn, turns_done, wrote_length}
-use Rattle.cell_pairs.specs.RecordsFacts.{records}
-use Rattle.distant_pairs.specs.Distant.{distant_kind, distant_parts}
-use borrow.Author.Rules.{rules}
+use Rattle.lists.specs.Writes.{turns_start, turns_room, turns_turn, turns_done}
+use Rattle.distant_pairs.specs.Distant.{distant_parts}
 use Rattle.distant_pairs.proofs.write_distant.Goals as goal
 
 pub loop-n-init : goal.loop-n-init

@@ -1,9 +1,8 @@
 -- `distant_pairs::write_distant` meets its contract. The invariant of its loop: the records of the first n test kinds are written. Assumes nothing.
 use Prim.Native.Nat.{◌-◌}
-use native.Mathlib.Omega.{arith}
-use Rattle.lists.specs.Writes.{Turns, turns_start, turns_room, turns_turn, turns_done, wrote_length}
+use Rattle.lists.specs.Writes.{Turns}
 use Rattle.cell_pairs.specs.RecordsFacts.{records}
-use Rattle.distant_pairs.specs.Distant.{distant_kind, distant_parts}
+use Rattle.distant_pairs.specs.Distant.{distant_kind}
 use Rattle.distant_pairs.proofs.write_distant.Given as goal
 
 abbrev pub invariant-loop-n : goal.invariant-loop-n

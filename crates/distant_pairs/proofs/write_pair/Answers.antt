@@ -1,7 +1,6 @@
 -- `distant_pairs::write_pair` meets its contract: the record is written where the cells share no vertex. Assumes nothing.
 use Rattle.lists.specs.Writes.{wrote_none}
-use Rattle.distant_pairs.specs.Facts.{pair_none, pair_one}
-use borrow.Author.Rules.{rules}
+use Rattle.distant_pairs.proofs.Facts.{pair_none, pair_one}
 use Rattle.distant_pairs.proofs.write_pair.Goals as goal
 
 pub put_record-requires : goal.put_record-requires

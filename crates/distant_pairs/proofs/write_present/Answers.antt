@@ -1,8 +1,7 @@
 -- `distant_pairs::write_present` meets its contract: where there are no cells of one of the kinds, there is nothing to write. Assumes nothing.
 use mathlib.Core.Path.{sym, ◌∙◌}
 use Rattle.lists.specs.Writes.{wrote_none}
-use Rattle.distant_pairs.specs.Facts.{no_test_cells, no_trial_cells}
-use borrow.Author.Rules.{rules}
+use Rattle.distant_pairs.proofs.Facts.{no_test_cells, no_trial_cells}
 use Rattle.distant_pairs.proofs.write_present.Goals as goal
 
 pub returns-then-has_cells-2 : goal.returns-then-has_cells-2

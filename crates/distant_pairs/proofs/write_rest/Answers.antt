@@ -1,15 +1,10 @@
 -- See Invariants.antt. Assumes nothing.
-use Prim.Native.Nat.{◌+◌, ◌-◌, ◌*◌, ◌<◌}
+use Prim.Native.Nat.{◌+◌, ◌*◌, ◌<◌}
 use native.Mathlib.Omega.{arith}
 use lib.ListN.{length}
-use Rattle.grid.specs.Rows.{share}
-use Rattle.lists.specs.Writes.{Turns, turns_start, turns_room, turns_turn, turns_done, wrote_length}
-use Rattle.cell_pairs.specs.RecordsFacts.{records}
-use Rattle.cells_by_key.specs.Groups.{part}
-use Rattle.cell_pairs.specs.WorkList.{distant_colours}
+use Rattle.lists.specs.Writes.{turns_start, turns_room, turns_turn, turns_done}
 use Rattle.distant_pairs.specs.Distant.{half, distant_rest}
-use Rattle.distant_pairs.specs.Facts.{kind_first, kind_group}
-use borrow.Author.Rules.{rules}
+use Rattle.distant_pairs.proofs.Facts.{kind_first, kind_group}
 use Rattle.distant_pairs.proofs.write_rest.Goals as goal
 use Rattle.distant_pairs.proofs.write_rest.Goals.{In-loop-d}
 

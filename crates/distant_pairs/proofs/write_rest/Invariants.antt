@@ -1,14 +1,11 @@
 -- `distant_pairs::write_rest` meets its contract. The invariant of its loop: the records of the first d trial colours are written. Assumes nothing.
-use Prim.Native.Nat.{◌+◌, ◌-◌, ◌*◌, ◌<◌}
-use native.Mathlib.Omega.{arith}
-use lib.ListN.{length}
+use Prim.Native.Nat.{◌+◌, ◌-◌, ◌*◌}
 use Rattle.grid.specs.Rows.{share}
-use Rattle.lists.specs.Writes.{Turns, turns_start, turns_room, turns_turn, turns_done, wrote_length}
+use Rattle.lists.specs.Writes.{Turns}
 use Rattle.cell_pairs.specs.RecordsFacts.{records}
 use Rattle.cells_by_key.specs.Groups.{part}
 use Rattle.cell_pairs.specs.WorkList.{distant_colours}
-use Rattle.distant_pairs.specs.Distant.{half, distant_rest}
-use Rattle.distant_pairs.specs.Facts.{kind_first, kind_group}
+use Rattle.distant_pairs.specs.Distant.{half}
 use Rattle.distant_pairs.proofs.write_rest.Given as goal
 
 abbrev pub invariant-loop-d : goal.invariant-loop-d

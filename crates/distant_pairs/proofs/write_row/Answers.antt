@@ -1,13 +1,8 @@
 -- See Invariants.antt. Assumes nothing.
-use Prim.Native.Nat.{◌-◌}
 use native.Mathlib.Omega.{arith}
-use Rattle.grid.specs.Rows.{share}
-use Rattle.lists.specs.Writes.{Each, each_start, each_in, each_room, each_turn, each_done, wrote_length}
-use Rattle.cell_pairs.specs.RecordsFacts.{records}
-use Rattle.cell_pairs.specs.WorkList.{distant_pair}
+use Rattle.lists.specs.Writes.{each_start, each_in, each_room, each_turn, each_done}
 use Rattle.distant_pairs.specs.Distant.{distant_row}
-use Rattle.distant_pairs.specs.Facts.{corners_read, pair_same}
-use borrow.Author.Rules.{rules}
+use Rattle.distant_pairs.proofs.Facts.{corners_read, pair_same}
 use Rattle.distant_pairs.proofs.write_row.Goals as goal
 
 pub fourth_or_first-d-requires : goal.fourth_or_first-d-requires

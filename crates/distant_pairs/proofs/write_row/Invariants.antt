@@ -1,12 +1,9 @@
 -- `distant_pairs::write_row` meets its contract. The invariant of its loop: the records of the first k test cells are written. Assumes nothing.
 use Prim.Native.Nat.{◌-◌}
-use native.Mathlib.Omega.{arith}
 use Rattle.grid.specs.Rows.{share}
-use Rattle.lists.specs.Writes.{Each, each_start, each_in, each_room, each_turn, each_done, wrote_length}
+use Rattle.lists.specs.Writes.{Each}
 use Rattle.cell_pairs.specs.RecordsFacts.{records}
 use Rattle.cell_pairs.specs.WorkList.{distant_pair}
-use Rattle.distant_pairs.specs.Distant.{distant_row}
-use Rattle.distant_pairs.specs.Facts.{corners_read, pair_same}
 use Rattle.distant_pairs.proofs.write_row.Given as goal
 
 abbrev pub invariant-loop-k : goal.invariant-loop-k

@@ -1,12 +1,9 @@
 -- `distant_pairs::write_tests` meets its contract. The invariant of its loop: the records of the first c test colours are written. Assumes nothing.
-use Prim.Native.Nat.{◌+◌, ◌-◌, ◌*◌, ◌<◌}
-use native.Mathlib.Omega.{arith}
-use lib.ListN.{length}
-use Rattle.lists.specs.Writes.{Turns, turns_start, turns_room, turns_turn, turns_done, wrote_length}
+use Prim.Native.Nat.{◌+◌, ◌-◌, ◌*◌}
+use Rattle.lists.specs.Writes.{Turns}
 use Rattle.cell_pairs.specs.RecordsFacts.{records}
 use Rattle.cells_by_key.specs.Groups.{part}
-use Rattle.distant_pairs.specs.Distant.{half, distant_rest, distant_tests}
-use Rattle.distant_pairs.specs.Facts.{kind_first, kind_group}
+use Rattle.distant_pairs.specs.Distant.{half, distant_rest}
 use Rattle.distant_pairs.proofs.write_tests.Given as goal
 
 abbrev pub invariant-loop-c : goal.invariant-loop-c

@@ -1,15 +1,12 @@
 -- `distant_pairs::write_trials` meets its contract. The invariant of its loop: the records of the first d batches are written. Assumes nothing.
-use Prim.Native.Nat.{◌-◌, ◌<◌}
-use native.Mathlib.Omega.{arith}
+use Prim.Native.Nat.{◌-◌}
 use lib.ListN.{length}
 use Rattle.grid.specs.Rows.{share}
 use Rattle.lists.specs.Range.{batch}
-use Rattle.lists.specs.Writes.{Turns, turns_start, turns_room, turns_turn, turns_done, wrote_length}
+use Rattle.lists.specs.Writes.{Turns}
 use Rattle.cell_pairs.specs.RecordsFacts.{records}
-use Rattle.cells_by_key.specs.GroupsFacts.{cells_batch}
 use Rattle.cell_pairs.specs.WorkList.{distant_batch}
-use Rattle.distant_pairs.specs.Distant.{distant_trials}
-use Rattle.distant_pairs.specs.Facts.{batch_count, batch_one, batch_few, batch_past, batch_begins}
+use Rattle.distant_pairs.proofs.Facts.{batch_count}
 use Rattle.distant_pairs.proofs.write_trials.Given as goal
 
 abbrev pub invariant-loop-d : goal.invariant-loop-d

@@ -1,11 +1,7 @@
 -- See Invariants.antt. Assumes nothing.
-use Prim.Native.Nat.{◌-◌}
 use native.Mathlib.Omega.{arith}
-use mathlib.Core.Path.{◌≡◌, refl, ◌∙◌}
-use lib.ListN.{length}
-use Rattle.dof_numbering.specs.Walk.{space, state}
-use Rattle.dof_numbering.specs.WholeWalk.{Numbered, numbered_none, vertices_reach, edges_reach, cell_asks, cell_gives, numbered_ends}
-use borrow.Author.Rules.{rules}
+use mathlib.Core.Path.{refl, ◌∙◌}
+use Rattle.dof_numbering.proofs.WholeWalk.{numbered_none, vertices_reach, edges_reach, cell_asks, cell_gives, numbered_ends}
 use Rattle.dof_numbering.proofs.assign_dofs.Goals as goal
 
 pub loop-i-init : goal.loop-i-init

@@ -1,10 +1,9 @@
 -- `dof_numbering::assign_dofs` meets its contract. The invariant is `Numbered`; a turn is `cell_gives`, and the end `numbered_ends`. Assumes nothing.
 use Prim.Native.Nat.{◌-◌}
-use native.Mathlib.Omega.{arith}
-use mathlib.Core.Path.{◌≡◌, refl, ◌∙◌}
+use mathlib.Core.Path.{◌≡◌}
 use lib.ListN.{length}
 use Rattle.dof_numbering.specs.Walk.{space, state}
-use Rattle.dof_numbering.specs.WholeWalk.{Numbered, numbered_none, vertices_reach, edges_reach, cell_asks, cell_gives, numbered_ends}
+use Rattle.dof_numbering.proofs.WholeWalk.{Numbered}
 use Rattle.dof_numbering.proofs.assign_dofs.Given as goal
 
 abbrev pub invariant-loop-i : goal.invariant-loop-i

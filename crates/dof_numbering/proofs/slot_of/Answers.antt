@@ -1,7 +1,6 @@
 -- `dof_numbering::slot_of` meets its contract. Each way out rewrites with the tests that led there. Assumes nothing.
 use borrow.Author.Tests.{eq-eqb, ne_eqb}
 use native.Mathlib.Omega.{arith}
-use borrow.Author.Rules.{rules}
 use Rattle.dof_numbering.proofs.slot_of.Goals as goal
 
 pub returns-then-dimension-eq0 : goal.returns-then-dimension-eq0

@@ -1,7 +1,7 @@
 -- `dof_numbering::visit` meets its contract. The two ways are `visited_first` and `visited_again`. Assumes nothing.
 use native.Mathlib.Omega.{arith}
 use mathlib.Core.Path.{refl}
-use Rattle.dof_numbering.specs.Walk.{visited_first, visited_again}
+use Rattle.dof_numbering.proofs.Walk.{visited_first, visited_again}
 use borrow.Author.Rules.{rules}
 use Rattle.dof_numbering.proofs.visit.Goals as goal
 

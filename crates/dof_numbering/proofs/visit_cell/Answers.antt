@@ -1,7 +1,6 @@
 -- `dof_numbering::visit_cell` meets its contract. The three walks join by `cell_walked`. Assumes nothing.
 use native.Mathlib.Omega.{arith}
-use Rattle.dof_numbering.specs.Walk.{vertices_room, edges_room, inside_room, cell_walked}
-use borrow.Author.Rules.{rules}
+use Rattle.dof_numbering.proofs.Walk.{vertices_room, edges_room, inside_room, cell_walked}
 use Rattle.dof_numbering.proofs.visit_cell.Goals as goal
 
 pub visit_each-vertices_met-requires : goal.visit_each-vertices_met-requires

@@ -1,10 +1,7 @@
 -- See Invariants.antt. Assumes nothing.
-use Prim.Native.Nat.{◌-◌}
 use native.Mathlib.Omega.{arith}
-use mathlib.Core.Path.{◌≡◌, refl, ◌∙◌}
-use lib.ListN.{length}
-use Rattle.dof_numbering.specs.Walk.{state, Visiting, visiting_none, visiting_room, visiting_turn, visiting_ends}
-use borrow.Author.Rules.{rules}
+use mathlib.Core.Path.{refl, ◌∙◌}
+use Rattle.dof_numbering.proofs.Walk.{visiting_none, visiting_room, visiting_turn, visiting_ends}
 use Rattle.dof_numbering.proofs.visit_each.Goals as goal
 
 pub loop-k-init : goal.loop-k-init

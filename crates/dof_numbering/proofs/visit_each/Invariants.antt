@@ -1,9 +1,9 @@
 -- `dof_numbering::visit_each` meets its contract. The invariant is `Visiting`. Assumes nothing.
 use Prim.Native.Nat.{◌-◌}
-use native.Mathlib.Omega.{arith}
-use mathlib.Core.Path.{◌≡◌, refl, ◌∙◌}
+use mathlib.Core.Path.{◌≡◌}
 use lib.ListN.{length}
-use Rattle.dof_numbering.specs.Walk.{state, Visiting, visiting_none, visiting_room, visiting_turn, visiting_ends}
+use Rattle.dof_numbering.specs.Walk.{state}
+use Rattle.dof_numbering.proofs.Walk.{Visiting}
 use Rattle.dof_numbering.proofs.visit_each.Given as goal
 
 abbrev pub invariant-loop-k : goal.invariant-loop-k

@@ -1,11 +1,9 @@
 -- `dof_numbering::write_numbers` meets its contract. The invariant: the first i numbers are stored (`sets`); a turn is `numbers_step`. Assumes nothing.
 use Prim.Native.Nat.{◌≤◌, ◌-◌}
-use native.Mathlib.Omega.{arith}
-use mathlib.Core.Path.{◌≡◌, refl}
-use lib.ListN.{length, length-set}
+use mathlib.Core.Path.{◌≡◌}
+use lib.ListN.{length}
 use lib.Seq.{sets}
 use Rattle.dof_numbering.specs.Numbering.{up_from}
-use Rattle.dof_numbering.specs.Walk.{numbers_step}
 use Rattle.dof_numbering.proofs.write_numbers.Given as goal
 
 abbrev pub invariant-loop-i : goal.invariant-loop-i

@@ -1,11 +1,9 @@
 -- See Invariants.antt. Assumes nothing.
-use Prim.Native.Nat.{◌≤◌, ◌-◌}
 use native.Mathlib.Omega.{arith}
 use mathlib.Core.Path.{◌≡◌, refl}
-use lib.ListN.{length, length-set}
-use lib.Seq.{sets}
+use lib.ListN.{length-set}
 use Rattle.dof_numbering.specs.Numbering.{owners_on}
-use Rattle.dof_numbering.specs.Walk.{owners_step}
+use Rattle.dof_numbering.proofs.Walk.{owners_step}
 use borrow.Author.Rules.{rules}
 use Rattle.dof_numbering.proofs.write_owners.Goals as goal
 

@@ -1,11 +1,9 @@
 -- `dof_numbering::write_owners` meets its contract. The invariant: the first `place` records are stored (`sets`); a turn is `owners_step`. Assumes nothing.
 use Prim.Native.Nat.{◌≤◌, ◌-◌}
-use native.Mathlib.Omega.{arith}
-use mathlib.Core.Path.{◌≡◌, refl}
-use lib.ListN.{length, length-set}
+use mathlib.Core.Path.{◌≡◌}
+use lib.ListN.{length}
 use lib.Seq.{sets}
 use Rattle.dof_numbering.specs.Numbering.{owners_on}
-use Rattle.dof_numbering.specs.Walk.{owners_step}
 use Rattle.dof_numbering.proofs.write_owners.Given as goal
 
 abbrev pub invariant-loop-place : goal.invariant-loop-place

@@ -1,7 +1,6 @@
 -- `job::head::head_right` meets its contract: `&` of the tests is `_and_`. Assumes nothing.
 use mathlib.Core.Path.{◌∙◌}
-use Rattle.job.specs.HeadFacts.{short_head, long_head}
-use borrow.Author.Rules.{rules}
+use Rattle.job.proofs.HeadFacts.{short_head, long_head}
 use Rattle.job.proofs.head.head_right.Goals as goal
 
 pub returns-then-bytes-lt7 : goal.returns-then-bytes-lt7

@@ -1,8 +1,7 @@
 -- `job::head::read_head` meets its contract. Assumes nothing.
 use native.Mathlib.Omega.{arith}
 use mathlib.Core.Path.{sym, ◌∙◌}
-use Rattle.job.specs.HeadFacts.{head_long, head_cells_lem, head_refused}
-use borrow.Author.Rules.{rules}
+use Rattle.job.proofs.HeadFacts.{head_long, head_cells_lem, head_refused}
 use Rattle.job.proofs.head.read_head.Goals as goal
 
 pub two_at-requires : goal.two_at-requires

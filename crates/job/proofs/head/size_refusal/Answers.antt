@@ -1,7 +1,6 @@
 -- `job::head::size_refusal` meets its contract: each way out is the ladder of the checks, read to the one that answers. Assumes nothing.
 use borrow.Author.Tests.{eq-eqb, ne_eqb, le-leb, lt-leb}
 use Rattle.lists.specs.Refusals.{answers, accepted, refused, ◌then◌}
-use borrow.Author.Rules.{rules}
 use Rattle.job.proofs.head.size_refusal.Goals as goal
 
 pub returns-then-bytes-wide : goal.returns-then-bytes-wide

@@ -1,6 +1,5 @@
 -- `job::head::two_at` meets its contract: the first byte is the high one. Assumes nothing.
 use native.Mathlib.Omega.{arith}
-use borrow.Author.Rules.{rules}
 use Rattle.job.proofs.head.two_at.Goals as goal
 
 pub returns : goal.returns

@@ -1,5 +1,4 @@
 -- `job::reading::element_at` meets its contract: three bytes. Assumes nothing.
-use borrow.Author.Rules.{rules}
 use Rattle.job.proofs.reading.element_at.Goals as goal
 
 pub returns : goal.returns

@@ -2,7 +2,6 @@
 use native.Mathlib.Omega.{arith}
 use mathlib.Core.Path.{sym, ◌∙◌}
 use Rattle.job.specs.JobFacts.{right_long, refusal_12, refusal_13, refusal_0}
-use borrow.Author.Rules.{rules}
 use Rattle.job.proofs.reading.job_refusal.Goals as goal
 
 pub returns-then-not-job_right : goal.returns-then-not-job_right

@@ -1,8 +1,7 @@
 -- `job::reading::job_right` meets its contract: the first 7 bytes, and the number of bytes. Assumes nothing.
 use native.Mathlib.Omega.{arith}
 use mathlib.Core.Path.{sym, ◌∙◌}
-use Rattle.job.specs.HeadFacts.{head_long, wrong_fails, right_by_length}
-use borrow.Author.Rules.{rules}
+use Rattle.job.proofs.HeadFacts.{head_long, wrong_fails, right_by_length}
 use Rattle.job.proofs.reading.job_right.Goals as goal
 
 pub returns-then-not-head_right : goal.returns-then-not-head_right

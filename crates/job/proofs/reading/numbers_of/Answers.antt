@@ -1,5 +1,4 @@
 -- `job::reading::numbers_of` meets its contract: the fields, one by one. Assumes nothing.
-use borrow.Author.Rules.{rules}
 use Rattle.job.proofs.reading.numbers_of.Goals as goal
 
 pub returns : goal.returns

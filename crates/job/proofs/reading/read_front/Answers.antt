@@ -3,7 +3,6 @@ use native.Mathlib.Omega.{arith}
 use mathlib.Core.Path.{sym, ◌∙◌}
 use lib.Seq.{length-take-le}
 use Rattle.job.specs.JobFacts.{front_part, front_whole}
-use borrow.Author.Rules.{rules}
 use Rattle.job.proofs.reading.read_front.Goals as goal
 
 pub slice_bounds-read_numbers-end-then-n-list : goal.slice_bounds-read_numbers-end-then-n-list

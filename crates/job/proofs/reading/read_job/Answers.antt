@@ -4,7 +4,6 @@ use native.Mathlib.Omega.{arith}
 use mathlib.Core.Path.{sym, ap, ◌∙◌}
 use Rattle.job.specs.declared.JobNumbers.{JobNumbers}
 use Rattle.job.specs.JobFacts.{passed_long, read_refused, read_whole}
-use borrow.Author.Rules.{rules}
 use Rattle.job.proofs.reading.read_job.Goals as goal
 
 pub returns-then-refused-ne0 : goal.returns-then-refused-ne0

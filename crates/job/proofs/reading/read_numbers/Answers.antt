@@ -1,11 +1,8 @@
 -- See Invariants.antt. Assumes nothing.
-use Prim.Native.Nat.{◌-◌}
-use mathlib.Core.Path.{◌≡◌, refl}
+use mathlib.Core.Path.{refl}
 use native.Mathlib.Omega.{arith}
-use lib.ListN.{length}
 use Rattle.lists.specs.Writes.{stores_start}
-use Rattle.job.specs.JobFacts.{Filled, filled_turn, filled_done}
-use borrow.Author.Rules.{rules}
+use Rattle.job.specs.JobFacts.{filled_turn, filled_done}
 use Rattle.job.proofs.reading.read_numbers.Goals as goal
 
 pub loop-i-init : goal.loop-i-init

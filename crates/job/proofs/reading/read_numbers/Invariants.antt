@@ -1,10 +1,8 @@
 -- `job::reading::read_numbers` meets its contract. The invariant of its loop: the first i numbers are read. Assumes nothing.
 use Prim.Native.Nat.{◌-◌}
-use mathlib.Core.Path.{◌≡◌, refl}
-use native.Mathlib.Omega.{arith}
+use mathlib.Core.Path.{◌≡◌}
 use lib.ListN.{length}
-use Rattle.lists.specs.Writes.{stores_start}
-use Rattle.job.specs.JobFacts.{Filled, filled_turn, filled_done}
+use Rattle.job.specs.JobFacts.{Filled}
 use Rattle.job.proofs.reading.read_numbers.Given as goal
 
 abbrev pub invariant-loop-i : goal.invariant-loop-i

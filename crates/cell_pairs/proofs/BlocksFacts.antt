@@ -15,11 +15,12 @@ use Rattle.cell_pairs.specs.declared.WorkRecord.{WorkRecord}
 use Rattle.cell_pairs.specs.Records.{rec, pattern_count}
 use Rattle.cell_pairs.specs.Matches.{matches}
 use Rattle.cell_pairs.specs.Table.{Pattern, pattern, table, pattern_at}
-use Rattle.cell_pairs.specs.TableFacts.{number_at}
+use Rattle.cell_pairs.proofs.TableFacts.{number_at}
 use Rattle.cell_pairs.specs.WorkList.{touching_pattern, touching_part, sharing_of}
-use Rattle.cell_pairs.specs.WorkRecordsFacts.{Marked, pattern_each}
-use Rattle.cell_pairs.specs.Counting.{Patterned, of_kinds, count_kinds}
-use Rattle.cell_pairs.specs.Blocks.{Block, block, blocks_of, block_at, entries_before, OfKinds, Blocked}
+use Rattle.cell_pairs.proofs.WorkRecordsFacts.{Marked, pattern_each}
+use Rattle.cell_pairs.specs.Counting.{Patterned}
+use Rattle.cell_pairs.proofs.Counting.{of_kinds, count_kinds}
+use Rattle.cell_pairs.specs.Blocks.{Block, blocks_of, block_at, entries_before, OfKinds, Blocked}
 
 -- ---- records that come block after block
 

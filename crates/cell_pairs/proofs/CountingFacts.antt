@@ -16,7 +16,7 @@ use Rattle.cell_pairs.specs.Records.{rec, pattern_count, distant_pattern}
 use Rattle.cell_pairs.specs.Patterns.{touch, pair_pattern, pair_vertex}
 use Rattle.cell_pairs.specs.WorkList.{coloured, batches, distant_pair, distant_batch, distant_colours, distant_kinds, distant_part, touching_pair, touching_pattern, touching_part}
 use Rattle.cell_pairs.specs.SharedVertices.{smallest_found, smallest_none}
-use Rattle.cell_pairs.specs.CellGroupsFacts.{total_coloured}
+use Rattle.cell_pairs.proofs.CellGroupsFacts.{total_coloured}
 
 -- ---- a sum over the distant part
 

@@ -28,7 +28,7 @@ use Rattle.cell_pairs.specs.declared.WorkRecord.{WorkRecord}
 use Rattle.cell_pairs.specs.Records.{rec}
 use Rattle.cell_pairs.specs.WorkList.{touching_part, distant_part, work_list, distant_pairs, sharing_pairs}
 use Rattle.cell_pairs.specs.WorkRecords.{of_pair}
-use Rattle.cell_pairs.specs.Counting.{split, length_distant, length_touching, once_touching, record_touching}
+use Rattle.cell_pairs.proofs.Counting.{split, length_distant, length_touching, once_touching, record_touching}
 use Rattle.scatter.specs.AddingFacts.{length_local_rows, length_local_columns, length_local_values}
 use Rattle.plans.specs.Planning.{Planning, Lists, test_space, trial_space, work_records}
 use Rattle.plans.specs.Accepted.{mesh_fine, Accepted, counted, test_fits, trial_fits}
@@ -37,9 +37,9 @@ use Rattle.runs.specs.CellDofs.{cell_long}
 use Rattle.runs.specs.Calls.{Call, looks, adds_distant, adds_touching, adds_entries}
 use Rattle.runs.specs.Machine.{Machine, machine_along, machine_of, State, entries_to, lists_sized, call_checks, add_pair, write_pair, granted, call_refusal, machine_step}
 use Rattle.runs.specs.Beside.{pair_count}
-use Rattle.runs.specs.Listed.{touching_behind_lem}
+use Rattle.runs.proofs.Listed.{touching_behind_lem}
 use Rattle.runs.specs.Reading.{is_accepted, acceptances, answer_at, taken, lent_to, record_rows, record_columns, call_values, record_values, entries_of}
-use Rattle.runs.specs.ReadingFacts.{pairs_from, answers_from}
+use Rattle.runs.proofs.ReadingFacts.{pairs_from, answers_from}
 
 -- ---- an accepted call of an entries run is an entries call
 

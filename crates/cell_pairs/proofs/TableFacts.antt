@@ -10,7 +10,7 @@ use Rattle.cell_pairs.specs.Records.{pattern_count}
 use Rattle.cell_pairs.specs.Matches.{Match, ◌↔◌, same_matches, edge_of, triangle_count, pattern_of}
 use Rattle.cell_pairs.specs.MatchesFacts.{joined, same_matches_lem, same_matches_refl}
 use Rattle.cell_pairs.specs.Cases.{case_at, can_be}
-use Rattle.cell_pairs.specs.CasesFacts.{can_be_case}
+use Rattle.cell_pairs.proofs.CasesFacts.{can_be_case}
 use Rattle.cell_pairs.specs.Table.{Pattern, pattern, table, pattern_at, from_to, same, place_of, number_of, block, in_block, formula_number, of_two_triangles}
 
 -- ---- the test `same` is equality

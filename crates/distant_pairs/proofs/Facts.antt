@@ -1,5 +1,5 @@
 -- The laws of the distant part. Assumes nothing.
-use Rattle.std.specs.Prelude.{◌≡◌, refl, ◌⊎◌, Bool, false, cond, get_or, take, drop, eqb, ltb}
+use Rattle.std.specs.Prelude.{◌≡◌, refl, ◌⊎◌, Bool, false, get_or, take, drop, eqb, ltb}
 use Rattle.std.proofs.Math.Path.{sym, ap, ap₂, subst⁻¹}
 use Rattle.std.proofs.Common.{◌∙◌, le_refl, le_of_suc-le-suc, eq-or-lt_of_le, div-mul-le_self, mul-le-mul_left, mul-le-mul_right, arith}
 use Rattle.std.proofs.Math.Logic.{inl, inr, ⊎_elim}
@@ -9,7 +9,7 @@ use Prim.Native.Nat.{ℕ, zero, suc, ◌+◌, ◌-◌, ◌*◌, ◌/◌, ◌≤�
 use Rattle.std.proofs.Math.Nat.{lt-div-mul-add}
 use Rattle.std.proofs.Math.ListN.{length}
 use borrow.Author.Tests.{eq-eqb, ne_eqb, ltb-false}
-use Rattle.lists.specs.Bool.{◌and◌, same_test, and_no_left}
+use Rattle.lists.specs.Bool.{same_test, and_no_left}
 use Rattle.lists.specs.Bounded.{lt_or_le, eq_or_ne}
 use Rattle.lists.specs.Range.{range, when, filter, batch, flat_map_nil, flat_map_below, flat_map_filter}
 use Rattle.grid.specs.Cells.{has as has_number, share as share_number}
@@ -22,7 +22,7 @@ use Rattle.function.specs.Colours.{colour_count}
 use Rattle.cell_pairs.specs.declared.WorkRecord.{WorkRecord}
 use Rattle.cell_pairs.specs.Records.{rec, distant_pattern}
 use Rattle.cell_pairs.specs.Patterns.{touch}
-use Rattle.cell_pairs.specs.WorkRecordsFacts.{distant_same}
+use Rattle.cell_pairs.proofs.WorkRecordsFacts.{distant_same}
 use Rattle.cell_pairs.specs.WorkList.{coloured, batches, distant_pair, distant_batch, distant_colours, distant_kinds, distant_part}
 use Rattle.cells_by_key.specs.Groups.{cells_with, from, part, Grouped, Cells, Cut, ByKind}
 use Rattle.cells_by_key.specs.GroupsFacts.{grouped_each, grouped_cut, filter_cells, with_one, with_triangles, with_quads}

@@ -18,11 +18,12 @@ use Rattle.grid.specs.CellsFacts.{before_most, before_more, part_inside, part_fr
 use Rattle.grid.specs.Mesh.{most_cells, most_vertices, most_edges}
 use Rattle.function.specs.declared.Element.{Element}
 use Rattle.function.specs.Elements.{most_dim, dim_of, cell_dim, Space}
-use Rattle.dof_numbering.specs.Numbering.{Visit, visit, corners, sides, element_on, cell_visits, visits_of, visits, visit_at, dimension_of, entity_of, dofs_on, same_entity, first_visit, is_first, free, start, up_from, owners_on, dofs_to, owners_to, dof_list, owner_list, dof_count, kind, visit_of}
-use Rattle.dof_numbering.specs.Facts.{same_dimension, same_number, same_of, first_le, first_meets, first_first, first_old, free_step, free_stays, start_first, length_next, free_le_length, length_owners}
-use Rattle.dof_numbering.specs.ByCell.Met.{vertex, edge, inside}
-use Rattle.dof_numbering.specs.ByCell.{Met, met, visits_none, visits_more, corners_length, sides_length, visit_which, length_dofs}
-use Rattle.dof_numbering.specs.Walk.{Sized, Slots, most_entities, slot, State, seen, met_first, met_again, step, step_first, step_again, walk, walk_append, walk_more, Room, room_less, cell_dofs, room_cell}
+use Rattle.dof_numbering.specs.Numbering.{Visit, corners, sides, element_on, cell_visits, visits_of, visits, visit_at, dimension_of, entity_of, dofs_on, same_entity, first_visit, is_first, free, start, up_from, owners_on, dofs_to, owners_to, dof_list, owner_list, dof_count, kind, visit_of}
+use Rattle.dof_numbering.proofs.Facts.{same_dimension, same_number, same_of, first_le, first_meets, first_first, first_old, free_step, free_stays, start_first, length_next, free_le_length, length_owners}
+use Rattle.dof_numbering.proofs.ByCell.Met.{vertex, edge, inside}
+use Rattle.dof_numbering.proofs.ByCell.{Met, met, visits_none, visits_more, corners_length, sides_length, visit_which, length_dofs}
+use Rattle.dof_numbering.specs.Walk.{Sized, Slots, most_entities, slot, State, seen, met_first, met_again, step, walk, Room, cell_dofs}
+use Rattle.dof_numbering.proofs.Walk.{step_first, step_again, walk_append, walk_more, room_less, room_cell}
 
 -- ---- an entity has a slot of its own
 

@@ -14,9 +14,9 @@ use Rattle.grid.specs.Facts.{vertices_differ}
 use Rattle.cell_pairs.specs.Records.{pattern_count}
 use Rattle.cell_pairs.specs.Matches.{Match, ◌↔◌, matches}
 use Rattle.cell_pairs.specs.MatchesFacts.{place, place_holds, places_of, at_places, clash, matches_at_lem, has_is_place}
-use Rattle.cell_pairs.specs.CasesFacts.{can_be_case, few_can_be}
+use Rattle.cell_pairs.proofs.CasesFacts.{can_be_case, few_can_be}
 use Rattle.cell_pairs.specs.Table.{Pattern, pattern, table, pattern_at}
-use Rattle.cell_pairs.specs.TableFacts.{number_is, number_at, case_in_table}
+use Rattle.cell_pairs.proofs.TableFacts.{number_is, number_at, case_in_table}
 use Rattle.cell_pairs.specs.Patterns.{cells_pattern, identical_pattern, cells_right, same_vertices}
 
 -- ---- the same vertices

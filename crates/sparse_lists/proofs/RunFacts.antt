@@ -14,7 +14,7 @@ use Rattle.lent_numbers.specs.Lent.{Touching}
 use Rattle.lent_numbers.specs.Entries.{touching_entry}
 use Rattle.cell_pairs.specs.declared.WorkRecord.{WorkRecord}
 use Rattle.cell_pairs.specs.WorkRecords.{Touching as Near}
-use Rattle.cell_pairs.specs.WorkRecordsFacts.{touching_each}
+use Rattle.cell_pairs.proofs.WorkRecordsFacts.{touching_each}
 use Rattle.cell_pairs.specs.WorkList.{touching_part}
 use Rattle.scatter.specs.Adding.{local_rows, local_columns}
 use Rattle.scatter.specs.AddingFacts.{length_local_rows, length_local_columns, length_local_values}
@@ -26,8 +26,8 @@ use Rattle.runs.specs.Machine.{Machine, machine_along, machine_of}
 use Rattle.runs.specs.Reading.{record_rows, record_columns, call_values, record_values}
 use Rattle.sparse_lists.specs.declared.Gathered.TheVariants.{Kept as kept}
 use Rattle.sparse_lists.specs.Sparse.{values_at, kept_of, SparseLists, in_front, entries_fit, lists_hold, sparse_refusal, sparse_rows, sparse_written}
-use Rattle.sparse_lists.specs.Laws.{same_kept, same_lists}
-use Rattle.sparse_lists.specs.BlockFacts.{values_nil, values_append, values_local}
+use Rattle.sparse_lists.proofs.Laws.{same_kept, same_lists}
+use Rattle.sparse_lists.proofs.BlockFacts.{values_nil, values_append, values_local}
 use Rattle.sparse_lists.specs.Pairs.{pair_at, pairs_at}
 
 -- ---- properties of each element

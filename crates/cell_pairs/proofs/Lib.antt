@@ -1,0 +1,12 @@
+pub mod CasesFacts
+pub mod TableFacts
+pub mod CasesProperty
+pub mod CoincidentFacts
+pub mod Coincident
+pub mod TableProperty
+pub mod WorkRecordsFacts
+pub mod CountingFacts
+pub mod Counting
+pub mod CellGroupsFacts
+pub mod BlocksFacts
+pub mod WorkExamples

@@ -1,0 +1,4 @@
+pub mod RunFacts
+pub mod SparseProperty
+pub mod BlockFacts
+pub mod Laws
