@@ -1,6 +1,6 @@
 -- The bytes read first are refused, or there are 7 and they say how many cells. Assumes nothing.
 use Rattle.std.proofs.Common.{◌≤◌, length, arith, sym, ◌∙◌}
-use Rattle.job.specs.HeadFacts.{cells_said, refused_said}
+use Rattle.job.proofs.HeadFacts.{cells_said, refused_said}
 use Rattle.worklist_io.specs.Answers.{most_bytes}
 use Rattle.worklist_io.specs.AnswersFacts.{came_seven, wrong_answers}
 use Rattle.worklist_io.proofs.answer.Goals as goal
