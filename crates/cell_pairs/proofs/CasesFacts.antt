@@ -13,7 +13,7 @@ use Rattle.grid.specs.Cells.{own, has, distinct, same_two}
 use Rattle.grid.specs.CellsFacts.{length_part}
 use Rattle.grid.specs.Mesh.{Mesh, corners, vertex_places, vertices_right, mesh_checks}
 use Rattle.grid.specs.Examples.{opened_grid}
-use Rattle.cell_pairs.specs.Matches.{Match, ◌↔◌, same_matches, matches, edge_of, pattern_of}
+use Rattle.cell_pairs.specs.Matches.{Match, ◌⇄◌, same_matches, matches, edge_of, pattern_of}
 use Rattle.cell_pairs.specs.Cases.{case_at, can_be, of_triangles, Triangle, shared_vertices, two_cells}
 use Rattle.cell_pairs.specs.SharedVertices.{vertex_below_lem}
 use Rattle.cell_pairs.specs.MatchesFacts.{same_matches_lem, Lone, lone, Places, places_of, matches_at, matches_by, length_at, matches_at_lem, has_three, has_is_place}
@@ -61,13 +61,13 @@ case_occurs k l =
 unfoldable found : List Match → Bool
 found ms = ltb (pattern_of ms) 27 and same_matches (case_at (pattern_of ms)).shared ms
 
-one_computed : all 3 (λ i. all 3 (λ j. found (i ↔ j ∷ []))) ≡ true
+one_computed : all 3 (λ i. all 3 (λ j. found (i ⇄ j ∷ []))) ≡ true
 unfolding all ◌and◌ ◌or◌ pattern_of same_matches found
 one_computed = refl
 
 -- found, unless the test places are the same or the trial places do not rise
 abbrev found_two : ℕ → ℕ → ℕ → ℕ → Bool
-found_two i j k l = eqb i k or not (ltb j l) or found (i ↔ j ∷ k ↔ l ∷ [])
+found_two i j k l = eqb i k or not (ltb j l) or found (i ⇄ j ∷ k ⇄ l ∷ [])
 
 two_computed : all 3 (λ i. all 3 (λ j. all 3 (λ k. all 3 (λ l. found_two i j k l)))) ≡ true
 unfolding all ◌and◌ ◌or◌ least same_two edge_of pattern_of same_matches found
@@ -98,11 +98,11 @@ can_be_case ms e =
 
 -- ---- two cells that share one or two vertices
 
-one_can_be : (p q : ℕ) → p < 3 → q < 3 → can_be (p ↔ q ∷ []) ≡ true
+one_can_be : (p q : ℕ) → p < 3 → q < 3 → can_be (p ⇄ q ∷ []) ≡ true
 unfolding can_be
 one_can_be p q h k = and_both _ _ (lt-ltb p 3 h) (lt-ltb q 3 k)
 
-two_can_be : (p q r s : ℕ) → p < 3 → r < 3 → (p ≡ r → ⊥) → q < s → s < 3 → can_be (p ↔ q ∷ r ↔ s ∷ []) ≡ true
+two_can_be : (p q r s : ℕ) → p < 3 → r < 3 → (p ≡ r → ⊥) → q < s → s < 3 → can_be (p ⇄ q ∷ r ⇄ s ∷ []) ≡ true
 unfolding can_be
 two_can_be p q r s hp hr n l hs =
     every_of

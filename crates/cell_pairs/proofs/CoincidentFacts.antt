@@ -12,7 +12,7 @@ use Rattle.grid.specs.Cells.{has, share, distinct}
 use Rattle.grid.specs.CellsFacts.{has_place, has_at, share_turned}
 use Rattle.grid.specs.Facts.{vertices_differ}
 use Rattle.cell_pairs.specs.Records.{pattern_count}
-use Rattle.cell_pairs.specs.Matches.{Match, ◌↔◌, matches}
+use Rattle.cell_pairs.specs.Matches.{Match, ◌⇄◌, matches}
 use Rattle.cell_pairs.specs.MatchesFacts.{place, place_holds, places_of, at_places, clash, matches_at_lem, has_is_place}
 use Rattle.cell_pairs.proofs.CasesFacts.{can_be_case, few_can_be}
 use Rattle.cell_pairs.specs.Table.{Pattern, pattern, table, pattern_at}
@@ -51,14 +51,14 @@ none_earlier C f turn e i j hi hj s =
 
 -- each of n vertices at its own place
 abbrev itself : ℕ → List Match
-itself n = map (λ i. i ↔ i) (range n)
+itself n = map (λ i. i ⇄ i) (range n)
 
 matches_itself : (xs : List ℕ) → distinct xs ≡ true → matches xs xs ≡ itself (length xs)
 unfolding matches
 matches_itself xs d =
-    flat_map_below _ (λ q. q ↔ q ∷ []) (length xs)
-    (λ q h. flat_map_below _ (λ p. when (eqb p q) (p ↔ q ∷ [])) (length xs) (λ p k. ap (λ (b : Bool). when b (p ↔ q ∷ [])) (one p q k h)) ∙ flat_map_pick (λ p. p ↔ q ∷ []) q (length xs) h)
-    ∙ flat_map_map (λ i. i ↔ i) (range (length xs))
+    flat_map_below _ (λ q. q ⇄ q ∷ []) (length xs)
+    (λ q h. flat_map_below _ (λ p. when (eqb p q) (p ⇄ q ∷ [])) (length xs) (λ p k. ap (λ (b : Bool). when b (p ⇄ q ∷ [])) (one p q k h)) ∙ flat_map_pick (λ p. p ⇄ q ∷ []) q (length xs) h)
+    ∙ flat_map_map (λ i. i ⇄ i) (range (length xs))
   where
     one : (p q : ℕ) → p < length xs → q < length xs → eqb (get_or xs p 0) (get_or xs q 0) ≡ eqb p q
     one p q k h =
@@ -70,7 +70,7 @@ unfolding matches
 match_each xs ys =
     let P : Match → Type 0 = λ m. get_or xs m.test 0 ≡ get_or ys m.trial 0 in
     all_in_below P _ (length ys)
-    (λ q _. all_in_below P _ (length xs) (λ p _. all_in_when P (eqb (get_or xs p 0) (get_or ys q 0)) (p ↔ q) (λ e. eqb-true _ _ e)))
+    (λ q _. all_in_below P _ (length xs) (λ p _. all_in_when P (eqb (get_or xs p 0) (get_or ys q 0)) (p ⇄ q) (λ e. eqb-true _ _ e)))
 
 -- cells that share their vertices in this way have the same
 itself_same : (n : ℕ) (xs ys : List ℕ) → pattern n n (itself n) ≡ pattern (length xs) (length ys) (matches xs ys) → same_vertices xs ys ≡ true
@@ -79,9 +79,9 @@ itself_same n xs ys e =
     let a : n ≡ length xs = ap (λ (x : Pattern). x.test) e in
     let b : n ≡ length ys = ap (λ (x : Pattern). x.trial) e in
     let each : AllIn P (itself n) = subst (AllIn P) (sym (ap (λ (x : Pattern). x.shared) e)) (match_each xs ys) in
-    let long : length (itself n) ≡ n = length-map (range n) (λ i. i ↔ i) ∙ length_range n in
+    let long : length (itself n) ≡ n = length-map (range n) (λ i. i ⇄ i) ∙ length_range n in
     same_list_lem xs ys (sym a ∙ b)
-    (λ p l. subst P (map_at (λ i. i ↔ i) (0 ↔ 0) n p (omega (arith, a))) (all_in_at P (itself n) each (0 ↔ 0) p (omega (arith, a, long))))
+    (λ p l. subst P (map_at (λ i. i ⇄ i) (0 ⇄ 0) n p (omega (arith, a))) (all_in_at P (itself n) each (0 ⇄ 0) p (omega (arith, a, long))))
 
 -- 27 of triangles, 148 of quads
 pub identical_three : pattern_at 27 ≡ pattern 3 3 (itself 3)

@@ -7,7 +7,7 @@ use Rattle.lists.specs.Bounded.{all, all_at, least, least_is, least_none, least_
 use Rattle.lists.specs.Range.{range}
 use Rattle.grid.specs.Cells.{same_two, edge_joining}
 use Rattle.cell_pairs.specs.Records.{pattern_count}
-use Rattle.cell_pairs.specs.Matches.{Match, ◌↔◌, same_matches, edge_of, triangle_count, pattern_of}
+use Rattle.cell_pairs.specs.Matches.{Match, ◌⇄◌, same_matches, edge_of, triangle_count, pattern_of}
 use Rattle.cell_pairs.specs.MatchesFacts.{joined, same_matches_lem, same_matches_refl}
 use Rattle.cell_pairs.specs.Cases.{case_at, can_be}
 use Rattle.cell_pairs.proofs.CasesFacts.{can_be_case}
@@ -156,7 +156,7 @@ none_computed : agrees [] ≡ true
 unfolding ◌and◌ in_block formula_number pattern_of agrees
 none_computed = refl
 
-three_computed : all 3 (λ i. all 3 (λ j. all 3 (λ k. agrees (i ↔ 0 ∷ j ↔ 1 ∷ k ↔ 2 ∷ [])))) ≡ true
+three_computed : all 3 (λ i. all 3 (λ j. all 3 (λ k. agrees (i ⇄ 0 ∷ j ⇄ 1 ∷ k ⇄ 2 ∷ [])))) ≡ true
 unfolding all ◌and◌ in_block formula_number pattern_of same_matches same table agrees
 three_computed = refl
 
@@ -195,7 +195,7 @@ three_number m n o h k =
     let a = h.rising in
     let b = k.rising in
     let c = k.below in
-    let places : ◌≡◌ {A = List Match} (m.test ↔ 0 ∷ n.test ↔ 1 ∷ o.test ↔ 2 ∷ []) (m ∷ n ∷ o ∷ []) =
+    let places : ◌≡◌ {A = List Match} (m.test ⇄ 0 ∷ n.test ⇄ 1 ∷ o.test ⇄ 2 ∷ []) (m ∷ n ∷ o ∷ []) =
     joined refl (omega (arith, a, b, c)) (joined refl (omega (arith, a, b, c)) (joined refl (omega (arith, a, b, c)) refl)) in
     agrees_number _ (subst (λ (ms : List Match). agrees ms ≡ true) places (all_at 3 _ (all_at 3 _ (all_at 3 _ three_computed _ h.test_first) _ h.test_second) _ k.test_second))
 

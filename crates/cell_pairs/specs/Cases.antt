@@ -1,12 +1,12 @@
 -- The 27 cases of one and of two shared vertices (change 2), written out in the order of their numbers, and the words in which the theorem on them
--- (`CasesProperty`) speaks. `i ↔ j` is a vertex at test place i and trial place j, and trial places rise. Assumes nothing.
+-- (`CasesProperty`) speaks. `i ⇄ j` is a vertex at test place i and trial place j, and trial places rise. Assumes nothing.
 use Rattle.std.specs.Prelude.{ℕ, ◌+◌, ◌<◌, ◌≡◌, Bool, false, cond, not, List, [], ◌∷◌, ◌++◌, get_or, eqb, ltb}
 use Rattle.lists.specs.Bool.{◌and◌, every}
 use Rattle.lists.specs.Range.{range}
 use Rattle.lists.specs.Total.{count}
 use Rattle.grid.specs.Cells.{has, ends_of}
 use Rattle.grid.specs.Mesh.{Mesh, triangles, kind, corners}
-use Rattle.cell_pairs.specs.Matches.{Match, ◌↔◌, edge_of}
+use Rattle.cell_pairs.specs.Matches.{Match, ◌⇄◌, edge_of}
 
 -- a pattern's number, and the vertices that it shares
 pub record Case : Type 0 where
@@ -19,38 +19,38 @@ case k ms = record { number = k; shared = ms }
 -- one shared vertex
 abbrev pub vertex_cases : List Case
 vertex_cases =
-    case 0 (0 ↔ 0 ∷ [])
-    ∷ case 1 (0 ↔ 1 ∷ [])
-    ∷ case 2 (0 ↔ 2 ∷ [])
-    ∷ case 3 (1 ↔ 0 ∷ [])
-    ∷ case 4 (1 ↔ 1 ∷ [])
-    ∷ case 5 (1 ↔ 2 ∷ [])
-    ∷ case 6 (2 ↔ 0 ∷ [])
-    ∷ case 7 (2 ↔ 1 ∷ [])
-    ∷ case 8 (2 ↔ 2 ∷ [])
+    case 0 (0 ⇄ 0 ∷ [])
+    ∷ case 1 (0 ⇄ 1 ∷ [])
+    ∷ case 2 (0 ⇄ 2 ∷ [])
+    ∷ case 3 (1 ⇄ 0 ∷ [])
+    ∷ case 4 (1 ⇄ 1 ∷ [])
+    ∷ case 5 (1 ⇄ 2 ∷ [])
+    ∷ case 6 (2 ⇄ 0 ∷ [])
+    ∷ case 7 (2 ⇄ 1 ∷ [])
+    ∷ case 8 (2 ⇄ 2 ∷ [])
     ∷ []
 
 -- two shared vertices, which are an edge of both cells
 abbrev pub edge_cases : List Case
 edge_cases =
-    case 9 (1 ↔ 1 ∷ 2 ↔ 2 ∷ [])
-    ∷ case 10 (2 ↔ 1 ∷ 1 ↔ 2 ∷ [])
-    ∷ case 11 (1 ↔ 0 ∷ 2 ↔ 2 ∷ [])
-    ∷ case 12 (2 ↔ 0 ∷ 1 ↔ 2 ∷ [])
-    ∷ case 13 (1 ↔ 0 ∷ 2 ↔ 1 ∷ [])
-    ∷ case 14 (2 ↔ 0 ∷ 1 ↔ 1 ∷ [])
-    ∷ case 15 (0 ↔ 1 ∷ 2 ↔ 2 ∷ [])
-    ∷ case 16 (2 ↔ 1 ∷ 0 ↔ 2 ∷ [])
-    ∷ case 17 (0 ↔ 0 ∷ 2 ↔ 2 ∷ [])
-    ∷ case 18 (2 ↔ 0 ∷ 0 ↔ 2 ∷ [])
-    ∷ case 19 (0 ↔ 0 ∷ 2 ↔ 1 ∷ [])
-    ∷ case 20 (2 ↔ 0 ∷ 0 ↔ 1 ∷ [])
-    ∷ case 21 (0 ↔ 1 ∷ 1 ↔ 2 ∷ [])
-    ∷ case 22 (1 ↔ 1 ∷ 0 ↔ 2 ∷ [])
-    ∷ case 23 (0 ↔ 0 ∷ 1 ↔ 2 ∷ [])
-    ∷ case 24 (1 ↔ 0 ∷ 0 ↔ 2 ∷ [])
-    ∷ case 25 (0 ↔ 0 ∷ 1 ↔ 1 ∷ [])
-    ∷ case 26 (1 ↔ 0 ∷ 0 ↔ 1 ∷ [])
+    case 9 (1 ⇄ 1 ∷ 2 ⇄ 2 ∷ [])
+    ∷ case 10 (2 ⇄ 1 ∷ 1 ⇄ 2 ∷ [])
+    ∷ case 11 (1 ⇄ 0 ∷ 2 ⇄ 2 ∷ [])
+    ∷ case 12 (2 ⇄ 0 ∷ 1 ⇄ 2 ∷ [])
+    ∷ case 13 (1 ⇄ 0 ∷ 2 ⇄ 1 ∷ [])
+    ∷ case 14 (2 ⇄ 0 ∷ 1 ⇄ 1 ∷ [])
+    ∷ case 15 (0 ⇄ 1 ∷ 2 ⇄ 2 ∷ [])
+    ∷ case 16 (2 ⇄ 1 ∷ 0 ⇄ 2 ∷ [])
+    ∷ case 17 (0 ⇄ 0 ∷ 2 ⇄ 2 ∷ [])
+    ∷ case 18 (2 ⇄ 0 ∷ 0 ⇄ 2 ∷ [])
+    ∷ case 19 (0 ⇄ 0 ∷ 2 ⇄ 1 ∷ [])
+    ∷ case 20 (2 ⇄ 0 ∷ 0 ⇄ 1 ∷ [])
+    ∷ case 21 (0 ⇄ 1 ∷ 1 ⇄ 2 ∷ [])
+    ∷ case 22 (1 ⇄ 1 ∷ 0 ⇄ 2 ∷ [])
+    ∷ case 23 (0 ⇄ 0 ∷ 1 ⇄ 2 ∷ [])
+    ∷ case 24 (1 ⇄ 0 ∷ 0 ⇄ 2 ∷ [])
+    ∷ case 25 (0 ⇄ 0 ∷ 1 ⇄ 1 ∷ [])
+    ∷ case 26 (1 ⇄ 0 ∷ 0 ⇄ 1 ∷ [])
     ∷ []
 
 abbrev pub cases : List Case

@@ -12,10 +12,10 @@ pub record Match : Type 0 where
   pub test : ℕ
   pub trial : ℕ
 
--- p ↔ q: at test place p and trial place q
-infix 80 ◌↔◌
-abbrev pub ◌↔◌ : ℕ → ℕ → Match
-p ↔ q = record { test = p; trial = q }
+-- p ⇄ q: at test place p and trial place q
+infix 80 ◌⇄◌
+abbrev pub ◌⇄◌ : ℕ → ℕ → Match
+p ⇄ q = record { test = p; trial = q }
 
 -- two lists of shared vertices are the same
 unfoldable pub same_matches : List Match → List Match → Bool
@@ -27,7 +27,7 @@ same_matches (m ∷ ms) (n ∷ ns) = eqb m.test n.test and eqb m.trial n.trial a
 -- shared vertices are listed as (test place, trial place), trial place rising
 unfoldable pub matches : List ℕ → List ℕ → List Match
 matches xs ys =
-    flat_map (λ q. flat_map (λ p. when (eqb (get_or xs p 0) (get_or ys q 0)) (p ↔ q ∷ [])) (range (length xs))) (range (length ys))
+    flat_map (λ q. flat_map (λ p. when (eqb (get_or xs p 0) (get_or ys q 0)) (p ⇄ q ∷ [])) (range (length xs))) (range (length ys))
 
 -- ---- the formula of triangles
 

@@ -9,11 +9,11 @@ use Rattle.lists.specs.Range.{range, when}
 use Rattle.lists.specs.Total.{gate}
 use Rattle.grid.specs.Cells.{has, distinct}
 use Rattle.grid.specs.Facts.{vertices_differ}
-use Rattle.cell_pairs.specs.Matches.{Match, ◌↔◌, same_matches, matches}
+use Rattle.cell_pairs.specs.Matches.{Match, ◌⇄◌, same_matches, matches}
 
 -- ---- the test that two lists are the same
 
-pub joined : {a a' b b' : ℕ} {ms ms' : List Match} → a ≡ a' → b ≡ b' → ms ≡ ms' → ◌≡◌ {A = List Match} (a ↔ b ∷ ms) (a' ↔ b' ∷ ms')
+pub joined : {a a' b b' : ℕ} {ms ms' : List Match} → a ≡ a' → b ≡ b' → ms ≡ ms' → ◌≡◌ {A = List Match} (a ⇄ b ∷ ms) (a' ⇄ b' ∷ ms')
 joined p q r = rw (p, q, r)
 
 pub same_matches_lem : (ms ns : List Match) → same_matches ms ns ≡ true → ms ≡ ns
@@ -47,7 +47,7 @@ place xs x = first_of (eqb (get_or xs 0 0) x) (eqb (get_or xs 1 0) x) (eqb (get_
 
 -- the match of test place p and trial place q, if there is one
 abbrev matched : ℕ → ℕ → List Match
-matched p q = when (ltb p 3) (p ↔ q ∷ [])
+matched p q = when (ltb p 3) (p ⇄ q ∷ [])
 
 -- the matches of cells whose trial places 0, 1 and 2 stand at the test places a, b and c
 unfoldable pub matches_at : ℕ → ℕ → ℕ → List Match
@@ -55,7 +55,7 @@ matches_at a b c = matched a 0 ++ (matched b 1 ++ matched c 2)
 
 -- the same, where tests say which trial vertices are shared
 abbrev pub matches_by : Bool → Bool → Bool → ℕ → ℕ → ℕ → List Match
-matches_by e f g a b c = when e (a ↔ 0 ∷ []) ++ (when f (b ↔ 1 ∷ []) ++ when g (c ↔ 2 ∷ []))
+matches_by e f g a b c = when e (a ⇄ 0 ∷ []) ++ (when f (b ⇄ 1 ∷ []) ++ when g (c ⇄ 2 ∷ []))
 
 -- a trial vertex is shared where its test place is below 3
 pub at_by : {e f g : Bool} (a b c : ℕ) → ltb a 3 ≡ e → ltb b 3 ≡ f → ltb c 3 ≡ g → matches_at a b c ≡ matches_by e f g a b c
@@ -109,7 +109,7 @@ lone xs x n d =
 
 -- the matches at one trial place
 row : (e f g : Bool) (q : ℕ) → Lone e f g
-    → when e (0 ↔ q ∷ []) ++ (when f (1 ↔ q ∷ []) ++ (when g (2 ↔ q ∷ []) ++ [])) ≡ matched (first_of e f g) q
+    → when e (0 ⇄ q ∷ []) ++ (when f (1 ⇄ q ∷ []) ++ (when g (2 ⇄ q ∷ []) ++ [])) ≡ matched (first_of e f g) q
 unfolding first_of
 row true true g q h = absurd (h.ef refl refl)
 row true false true q h = absurd (h.eg refl refl)

@@ -12,7 +12,7 @@ use Rattle.lists.specs.Range.{range, length_range, when, flat_map_none, flat_map
 use Rattle.grid.specs.Cells.{distinct, share}
 use Rattle.grid.specs.CellsFacts.{has_place, has_at, share_which, share_at}
 use Rattle.grid.specs.Facts.{vertices_differ}
-use Rattle.cell_pairs.specs.Matches.{Match, ◌↔◌, matches}
+use Rattle.cell_pairs.specs.Matches.{Match, ◌⇄◌, matches}
 use Rattle.cell_pairs.specs.Records.{pattern_count}
 use Rattle.cell_pairs.specs.Table.{pattern, number_of}
 use Rattle.triangle_patterns.specs.Triangles.{cells_right}
@@ -48,14 +48,14 @@ unfolding listed range
 listed_none ts rs = refl
 
 pub listed_more : (n : ℕ) (ts rs : List ℕ) (p q : ℕ) → n < length ts → n < length rs
-    → listed (n + 1) (set ts n p) (set rs n q) ≡ listed n ts rs ++ (p ↔ q ∷ [])
+    → listed (n + 1) (set ts n p) (set rs n q) ≡ listed n ts rs ++ (p ⇄ q ∷ [])
 unfolding listed
 listed_more n ts rs p q ht hr =
-    map_range (λ k. get_or (set ts n p) k 0 ↔ get_or (set rs n q) k 0) n
+    map_range (λ k. get_or (set ts n p) k 0 ⇄ get_or (set rs n q) k 0) n
     ∙ ap₂ (λ (l : List Match) (m : Match). l ++ (m ∷ []))
-    (map_below (λ k. get_or (set ts n p) k 0 ↔ get_or (set rs n q) k 0) (λ k. get_or ts k 0 ↔ get_or rs k 0) n
-    (λ k l. ap₂ ◌↔◌ (get_or-set_other ts n k p 0 (λ e. absurd (omega arith))) (get_or-set_other rs n k q 0 (λ e. absurd (omega arith)))))
-    (ap₂ ◌↔◌ (get_or-set_same ts n p 0 ht) (get_or-set_same rs n q 0 hr))
+    (map_below (λ k. get_or (set ts n p) k 0 ⇄ get_or (set rs n q) k 0) (λ k. get_or ts k 0 ⇄ get_or rs k 0) n
+    (λ k l. ap₂ ◌⇄◌ (get_or-set_other ts n k p 0 (λ e. absurd (omega arith))) (get_or-set_other rs n k q 0 (λ e. absurd (omega arith)))))
+    (ap₂ ◌⇄◌ (get_or-set_same ts n p 0 ht) (get_or-set_same rs n q 0 hr))
 
 -- ---- one place alone passes
 
@@ -100,19 +100,19 @@ flat_map_least {B} f g n one = ⊎_elim found none (lt_or_le (least n f) n)
 
 -- those of trial places below k
 unfoldable pub matches_to : List ℕ → List ℕ → ℕ → List Match
-matches_to xs ys k = flat_map (λ q. flat_map (λ p. when (eqb (get_or xs p 0) (get_or ys q 0)) (p ↔ q ∷ [])) (range (length xs))) (range k)
+matches_to xs ys k = flat_map (λ q. flat_map (λ p. when (eqb (get_or xs p 0) (get_or ys q 0)) (p ⇄ q ∷ [])) (range (length xs))) (range k)
 
 pub matches_none : (xs ys : List ℕ) → matches_to xs ys 0 ≡ []
 unfolding matches_to
 matches_none xs ys = flat_map_none _
 
 pub matches_more : (xs ys : List ℕ) (k : ℕ) → distinct xs ≡ true
-    → matches_to xs ys (k + 1) ≡ matches_to xs ys k ++ when (ltb (place_in xs (get_or ys k 0)) (length xs)) (place_in xs (get_or ys k 0) ↔ k ∷ [])
+    → matches_to xs ys (k + 1) ≡ matches_to xs ys k ++ when (ltb (place_in xs (get_or ys k 0)) (length xs)) (place_in xs (get_or ys k 0) ⇄ k ∷ [])
 unfolding matches_to place_in
 matches_more xs ys k d =
     flat_map_range _ k
     ∙ ap (λ (l : List Match). matches_to xs ys k ++ l)
-    (flat_map_least (λ p. eqb (get_or xs p 0) (get_or ys k 0)) (λ p. p ↔ k ∷ []) (length xs)
+    (flat_map_least (λ p. eqb (get_or xs p 0) (get_or ys k 0)) (λ p. p ⇄ k ∷ []) (length xs)
     (λ p q hp hq e f. vertices_differ xs d p q hp hq (eqb-true _ _ e ∙ sym (eqb-true _ _ f))))
 
 pub matches_all : (xs ys : List ℕ) → matches_to xs ys (length ys) ≡ matches xs ys
@@ -122,13 +122,13 @@ matches_all xs ys = refl
 -- ---- the loops
 
 -- a vertex that is skipped, and one that is kept
-pub match_skipped : (ms : List Match) (p n q : ℕ) → n ≤ p → ms ≡ ms ++ when (ltb p n) (p ↔ q ∷ [])
-match_skipped ms p n q h = sym (ap (λ (b : Bool). ms ++ when b (p ↔ q ∷ [])) (le-ltb p n h) ∙ append-nil ms)
+pub match_skipped : (ms : List Match) (p n q : ℕ) → n ≤ p → ms ≡ ms ++ when (ltb p n) (p ⇄ q ∷ [])
+match_skipped ms p n q h = sym (ap (λ (b : Bool). ms ++ when b (p ⇄ q ∷ [])) (le-ltb p n h) ∙ append-nil ms)
 
 pub match_kept : (a : ℕ) (ts rs : List ℕ) (p n q : ℕ) → a < length ts → a < length rs → p < n
-    → listed (a + 1) (set ts a p) (set rs a q) ≡ listed a ts rs ++ when (ltb p n) (p ↔ q ∷ [])
+    → listed (a + 1) (set ts a p) (set rs a q) ≡ listed a ts rs ++ when (ltb p n) (p ⇄ q ∷ [])
 match_kept a ts rs p n q ht hr h =
-    listed_more a ts rs p q ht hr ∙ sym (ap (λ (b : Bool). listed a ts rs ++ when b (p ↔ q ∷ [])) (lt-ltb p n h))
+    listed_more a ts rs p q ht hr ∙ sym (ap (λ (b : Bool). listed a ts rs ++ when b (p ⇄ q ∷ [])) (lt-ltb p n h))
 
 -- a search for the place of a vertex
 pub place_found : (xs : List ℕ) (x p : ℕ) → p < length xs → ((k : ℕ) → k < p → eqb (get_or xs k 0) x ≡ false) → get_or xs p 0 ≡ x → p ≡ place_in xs x
@@ -162,7 +162,7 @@ gathered_start xs ys =
     record { size = refl; finish = refl; below = omega arith; few = omega arith; list = listed_none _ _ ∙ sym (matches_none xs ys); small = small_none }
 
 pub gathered_turn : {xs ys : List ℕ} {n end pairs : ℕ} {ts rs : List ℕ} {q : ℕ} → Gathered xs ys n end pairs ts rs q → q < length ys → distinct xs ≡ true
-    → (p pairs' : ℕ) (ts' rs' : List ℕ) → p ≡ place_in xs (get_or ys q 0) → listed pairs' ts' rs' ≡ listed pairs ts rs ++ when (ltb p n) (p ↔ q ∷ []) → pairs' ≤ pairs + 1 → Small ts' rs'
+    → (p pairs' : ℕ) (ts' rs' : List ℕ) → p ≡ place_in xs (get_or ys q 0) → listed pairs' ts' rs' ≡ listed pairs ts rs ++ when (ltb p n) (p ⇄ q ∷ []) → pairs' ≤ pairs + 1 → Small ts' rs'
     → Gathered xs ys n end pairs' ts' rs' (q + 1)
 gathered_turn {xs} {ys} {n} {end} {pairs} {ts} {rs} {q} g l d p pairs' ts' rs' place more few small =
     record {
@@ -172,8 +172,8 @@ gathered_turn {xs} {ys} {n} {end} {pairs} {ts} {rs} {q} g l d p pairs' ts' rs' p
       few = omega (arith, g.few);
       list =
           more
-          ∙ ap₂ (λ (ms : List Match) (k : ℕ). ms ++ when (ltb k n) (k ↔ q ∷ [])) g.list place
-          ∙ ap (λ (k : ℕ). matches_to xs ys q ++ when (ltb (place_in xs (get_or ys q 0)) k) (place_in xs (get_or ys q 0) ↔ q ∷ [])) g.size
+          ∙ ap₂ (λ (ms : List Match) (k : ℕ). ms ++ when (ltb k n) (k ⇄ q ∷ [])) g.list place
+          ∙ ap (λ (k : ℕ). matches_to xs ys q ++ when (ltb (place_in xs (get_or ys q 0)) k) (place_in xs (get_or ys q 0) ⇄ q ∷ [])) g.size
           ∙ sym (matches_more xs ys q d);
       small = small;
     }
@@ -190,7 +190,7 @@ place_small xs x e h = omega (arith, e, place_le xs x)
 
 pub length_listed : (n : ℕ) (ts rs : List ℕ) → length (listed n ts rs) ≡ n
 unfolding listed
-length_listed n ts rs = length-map (range n) (λ k. get_or ts k 0 ↔ get_or rs k 0) ∙ length_range n
+length_listed n ts rs = length-map (range n) (λ k. get_or ts k 0 ⇄ get_or rs k 0) ∙ length_range n
 
 longer : (ls ms ns : List Match) → length ms ≤ length (ls ++ (ms ++ ns))
 longer ls ms ns = omega (arith, length-append ls (ms ++ ns), length-append ms ns)
@@ -201,7 +201,7 @@ unfolding matches
 share_some xs ys = ⊎_elim (λ s. s ∙ sym (lt-ltb 0 _ (more s))) (λ s. s ∙ sym (ap (λ (ms : List Match). ltb 0 (length ms)) (empty s))) (cases (share xs ys))
   where
     at_place : ℕ → ℕ → List Match
-    at_place q p = when (eqb (get_or xs p 0) (get_or ys q 0)) (p ↔ q ∷ [])
+    at_place q p = when (eqb (get_or xs p 0) (get_or ys q 0)) (p ⇄ q ∷ [])
 
     at_trial : ℕ → List Match
     at_trial q = flat_map (at_place q) (range (length xs))
@@ -211,7 +211,7 @@ share_some xs ys = ⊎_elim (λ s. s ∙ sym (lt-ltb 0 _ (more s))) (λ s. s ∙
         let w = share_which xs ys s in
         let a = has_place xs w.0 w.1 in
         let b = has_place ys w.0 w.2 in
-        let one : at_place b.0 a.0 ≡ a.0 ↔ b.0 ∷ [] = rw (eq-eqb (get_or xs a.0 0) (get_or ys b.0 0) (a.2 ∙ sym b.2)) in
+        let one : at_place b.0 a.0 ≡ a.0 ⇄ b.0 ∷ [] = rw (eq-eqb (get_or xs a.0 0) (get_or ys b.0 0) (a.2 ∙ sym b.2)) in
         let inner = range_split (at_place b.0) a.0 (length xs) a.1 in
         let outer = range_split at_trial b.0 (length ys) b.1 in
         omega (

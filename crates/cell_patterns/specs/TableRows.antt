@@ -6,7 +6,7 @@ use Rattle.lists.specs.Bool.{◌and◌, every, every_at, and_left, and_right, sa
 use Rattle.lists.specs.Bounded.{all, all_at}
 use Rattle.lists.specs.Range.{map_at, AllIn, all_in_places}
 use Rattle.cell_pairs.specs.Records.{pattern_count}
-use Rattle.cell_pairs.specs.Matches.{Match, ◌↔◌}
+use Rattle.cell_pairs.specs.Matches.{Match, ◌⇄◌}
 use Rattle.cell_pairs.specs.MatchesFacts.{joined}
 use Rattle.cell_pairs.specs.Table.{Pattern, pattern, table, pattern_at, same}
 use Rattle.cell_pairs.proofs.TableFacts.{built, same_eq, eq_same}
@@ -58,8 +58,8 @@ listed_decimal n k pairs {ts} {rs} a b c s =
       test = omega arith;
       trial = omega arith;
       places =
-          all_in_places Digits (listed pairs ts rs) (0 ↔ 0)
-          (λ i l. rw (map_at (λ k. get_or ts k 0 ↔ get_or rs k 0) (0 ↔ 0) pairs i (omega (arith, length_listed pairs ts rs))) (omega (arith, s.test i), omega (arith, s.trial i)));
+          all_in_places Digits (listed pairs ts rs) (0 ⇄ 0)
+          (λ i l. rw (map_at (λ k. get_or ts k 0 ⇄ get_or rs k 0) (0 ⇄ 0) pairs i (omega (arith, length_listed pairs ts rs))) (omega (arith, s.test i), omega (arith, s.trial i)));
     }
 
 -- ---- the table
@@ -70,7 +70,7 @@ decimal x =
     (ltb 0 x.test
     ∷ ltb x.test 10
     ∷ ltb x.trial 10
-    ∷ all (length x.shared) (λ i. ltb (get_or x.shared i (0 ↔ 0)).test 10 and ltb (get_or x.shared i (0 ↔ 0)).trial 10)
+    ∷ all (length x.shared) (λ i. ltb (get_or x.shared i (0 ⇄ 0)).test 10 and ltb (get_or x.shared i (0 ⇄ 0)).trial 10)
     ∷ [])
 
 decimal_holds : (x : Pattern) → decimal x ≡ true → Decimal x
@@ -81,8 +81,8 @@ decimal_holds x e =
       test = ltb-true _ _ (every_at _ e 1);
       trial = ltb-true _ _ (every_at _ e 2);
       places =
-          all_in_places Digits x.shared (0 ↔ 0)
-          (λ i l. let d = all_at (length x.shared) _ (every_at _ e 3) i l in (ltb-true _ _ (and_left _ _ d), ltb-true _ _ (and_right (ltb (get_or x.shared i (0 ↔ 0)).test 10) _ d)));
+          all_in_places Digits x.shared (0 ⇄ 0)
+          (λ i l. let d = all_at (length x.shared) _ (every_at _ e 3) i l in (ltb-true _ _ (and_left _ _ d), ltb-true _ _ (and_right (ltb (get_or x.shared i (0 ⇄ 0)).test 10) _ d)));
     }
 
 -- computed over the whole table

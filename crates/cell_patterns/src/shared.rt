@@ -3,7 +3,7 @@
 ghost use Rattle.std.specs.Prelude.{◌≡◌, true, [], ◌∷◌, ◌++◌, ◌+◌, ◌*◌, ◌≤◌, ◌<◌, length, get_or, ltb};
 ghost use Rattle.lists.specs.Range.{when};
 ghost use Rattle.grid.specs.Cells.{distinct};
-ghost use Rattle.cell_pairs.specs.Matches.{◌↔◌, matches};
+ghost use Rattle.cell_pairs.specs.Matches.{◌⇄◌, matches};
 ghost use Rattle.cell_pairs.specs.Patterns.{cells_pattern};
 ghost use Rattle.cell_pairs.specs.Table.{pattern, number_of, block_start, in_block};
 ghost use Rattle.triangle_patterns.specs.Triangles.{cells_right};
@@ -39,7 +39,7 @@ fn place_in(cell: &[u32], x: u32) -> usize
 fn with_match(s: Shared, p: u32, n: u32, q: u32) -> Shared
     requires pairs_bound { (s.pairs < 4) × (n ≤ 4) × (q < 4) }
     requires small { Small s.tests s.trials }
-    ensures { (listed result.pairs result.tests result.trials ≡ listed s.pairs s.tests s.trials ++ when (ltb p n) (p ↔ q ∷ [])) × (result.pairs ≤ s.pairs + 1) × Small result.tests result.trials }
+    ensures { (listed result.pairs result.tests result.trials ≡ listed s.pairs s.tests s.trials ++ when (ltb p n) (p ⇄ q ∷ [])) × (result.pairs ≤ s.pairs + 1) × Small result.tests result.trials }
 {
     let at = s.pairs as usize;
     if n <= p {

@@ -5,11 +5,11 @@
 
 mod cases;
 mod lent;
-mod runs;
+mod recorded_runs;
 
 use crate::cases::{Case, read_case};
 use crate::lent::{float_room, front, room};
-use crate::runs::{entries_agree, matrix_agrees};
+use crate::recorded_runs::{entries_agree, matrix_agrees};
 use full_reads::Source;
 use planning::plan;
 use plans::{PlanNumbers, Planned};

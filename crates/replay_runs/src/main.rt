@@ -5,11 +5,11 @@
 #![tactic(auto)]
 
 mod cases;
-mod lists;
+mod recorded_lists;
 mod sparse;
 
 use crate::cases::{Case, read_case};
-use crate::lists::{call_room, float_room, kind_room, read_calls, room};
+use crate::recorded_lists::{call_room, float_room, kind_room, read_calls, room};
 use crate::sparse::rows_agree;
 use full_reads::Source;
 use recorded::{

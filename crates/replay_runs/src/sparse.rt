@@ -1,5 +1,5 @@
 // The sparse rows of a case.
-use crate::lists::{float_room, read_starts, room, same_starts, start_room};
+use crate::recorded_lists::{float_room, read_starts, room, same_starts, start_room};
 use full_reads::Source;
 use recorded::{read_floats, read_numbers, same_floats, same_numbers};
 use sparse_lists::Gathered;
