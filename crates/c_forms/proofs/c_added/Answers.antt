@@ -1,5 +1,4 @@
 -- `c_forms::c_added` meets its contract: in each arm the answer is that constructor, at which `c_added` computes. Assumes nothing.
-use borrow.Author.Rules.{rules}
 use Rattle.c_forms.proofs.c_added.Goals as goal
 
 pub returns-in-Accepted : goal.returns-in-Accepted

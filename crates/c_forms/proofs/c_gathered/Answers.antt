@@ -1,5 +1,4 @@
 -- `c_forms::c_gathered` meets its contract: in each arm the answer is that constructor, at which `c_gathered` computes. Assumes nothing.
-use borrow.Author.Rules.{rules}
 use Rattle.c_forms.proofs.c_gathered.Goals as goal
 
 pub returns-in-Kept : goal.returns-in-Kept

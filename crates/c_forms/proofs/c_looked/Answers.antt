@@ -1,5 +1,4 @@
 -- `c_forms::c_looked` meets its contract: in each arm the answer is that constructor, at which `c_looked` computes. Assumes nothing.
-use borrow.Author.Rules.{rules}
 use Rattle.c_forms.proofs.c_looked.Goals as goal
 
 pub returns-in-Found : goal.returns-in-Found

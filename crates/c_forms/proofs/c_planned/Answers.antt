@@ -1,5 +1,4 @@
 -- `c_forms::c_planned` meets its contract: in each arm the answer is that constructor, at which `c_planned` computes. Assumes nothing.
-use borrow.Author.Rules.{rules}
 use Rattle.c_forms.proofs.c_planned.Goals as goal
 
 pub returns-in-Ready : goal.returns-in-Ready

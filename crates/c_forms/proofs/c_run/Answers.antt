@@ -2,7 +2,6 @@
 use mathlib.Core.Path.{◌≡◌, refl}
 use mathlib.Core.Bool.{Bool, true, false, cond}
 use mir.Val.{bool_byte}
-use borrow.Author.Rules.{rules}
 use Rattle.c_forms.proofs.c_run.Goals as goal
 
 as_number : (b : Bool) → bool_byte b ≡ cond b 1 0

@@ -1,5 +1,4 @@
 -- `c_forms::integrand_of` meets its contract. Assumes nothing.
-use borrow.Author.Rules.{rules}
 use Rattle.c_forms.proofs.integrand_of.Goals as goal
 
 pub returns : goal.returns

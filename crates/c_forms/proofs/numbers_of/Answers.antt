@@ -1,5 +1,4 @@
 -- `c_forms::numbers_of` meets its contract. Assumes nothing.
-use borrow.Author.Rules.{rules}
 use Rattle.c_forms.proofs.numbers_of.Goals as goal
 
 pub returns : goal.returns

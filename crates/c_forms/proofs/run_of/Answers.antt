@@ -1,5 +1,4 @@
 -- `c_forms::run_of` meets its contract. Assumes nothing.
-use borrow.Author.Rules.{rules}
 use Rattle.c_forms.proofs.run_of.Goals as goal
 
 pub returns : goal.returns

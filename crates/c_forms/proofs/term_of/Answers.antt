@@ -1,6 +1,5 @@
 -- `c_forms::term_of` meets its contract. Assumes nothing.
 use borrow.Author.Tests.{eq-eqb, ne_eqb}
-use borrow.Author.Rules.{rules}
 use Rattle.c_forms.proofs.term_of.Goals as goal
 
 pub returns-then-t-eq0 : goal.returns-then-t-eq0
