@@ -24,7 +24,7 @@ use Rattle.function.specs.Elements.{most_dim, dims_right}
 use Rattle.integrands.specs.Terms.{integrand_right}
 use Rattle.cell_pairs.specs.Blocks.{Block, block, block_at, entries_before}
 use Rattle.plans.specs.declared.PlanNumbers.{PlanNumbers}
-use Rattle.runs.specs.Runs.{Run, Plan, EntryLists, entry_lists, written, pairs, blocks, entries_on, entries_to, ranges_right, counts_right, kinds_fit, plan_right, pair_left, record_right, is_touching, entries_right, entry_place}
+use Rattle.runs.specs.Runs.{Run, Plan, EntryLists, entry_lists, written, blocks, entries_on, entries_to, ranges_right, counts_right, kinds_fit, plan_right, pair_left, record_right, is_touching, entries_right, entry_place}
 use Rattle.boundary_assemblers.specs.RunFacts.{Dims, kind_few, state_passed, Counts, standing}
 use Rattle.boundary_assemblers.specs.Forms.{checked, state_checked, dofs_at, pair_at}
 use Rattle.boundary_assemblers.specs.declared.Pair.{Pair}

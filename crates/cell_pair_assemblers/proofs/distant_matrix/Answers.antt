@@ -1,6 +1,5 @@
 -- `cell_pair_assemblers::distant_matrix` meets its contract. Assumes nothing.
 use Rattle.cell_pair_assemblers.specs.Pairs.{distant_pairs_lem}
-use borrow.Author.Rules.{rules}
 use Rattle.cell_pair_assemblers.proofs.distant_matrix.Goals as goal
 
 pub pair_matrix-requires : goal.pair_matrix-requires

@@ -1,7 +1,6 @@
 -- `cell_pair_assemblers::touching_matrix` meets its contract. Assumes nothing.
 use mathlib.Core.Path.{refl}
 use Rattle.cell_pair_assemblers.specs.Pairs.{touching_pairs}
-use borrow.Author.Rules.{rules}
 use Rattle.cell_pair_assemblers.proofs.touching_matrix.Goals as goal
 
 pub pair_matrix-requires : goal.pair_matrix-requires

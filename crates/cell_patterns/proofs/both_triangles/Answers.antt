@@ -1,6 +1,5 @@
 -- `cell_patterns::both_triangles` meets its contract. Assumes nothing.
 use Rattle.lists.specs.Bool.{◌and◌}
-use borrow.Author.Rules.{rules}
 use Rattle.cell_patterns.proofs.both_triangles.Goals as goal
 
 pub returns : goal.returns

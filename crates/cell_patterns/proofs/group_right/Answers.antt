@@ -1,14 +1,9 @@
 -- See Invariants.antt. Assumes nothing.
-use mathlib.Core.Path.{◌≡◌, sym}
-use mathlib.Core.Bool.{true}
-use Prim.Native.Nat.{◌≤◌, ◌-◌}
+use mathlib.Core.Path.{sym}
 use native.Mathlib.Omega.{arith}
-use lib.ListN.{length, get_or}
 use Rattle.lists.specs.Bool.{turned, passed}
-use Rattle.lists.specs.Bounded.{all, all_none, all_more, all_fails, all_done}
-use Rattle.cell_patterns.specs.Flat.{pair_right}
+use Rattle.lists.specs.Bounded.{all_none, all_more, all_fails, all_done}
 use Rattle.cell_patterns.specs.PatternFacts.{group_right}
-use borrow.Author.Rules.{rules}
 use Rattle.cell_patterns.proofs.group_right.Goals as goal
 
 pub loop-k-init : goal.loop-k-init

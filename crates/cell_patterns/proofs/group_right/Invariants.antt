@@ -1,13 +1,10 @@
 -- `cell_patterns::group_right` meets its contract. The invariant of its loop: the rows of the first k cells pass. Assumes nothing.
-use mathlib.Core.Path.{◌≡◌, sym}
+use mathlib.Core.Path.{◌≡◌}
 use mathlib.Core.Bool.{true}
 use Prim.Native.Nat.{◌≤◌, ◌-◌}
-use native.Mathlib.Omega.{arith}
 use lib.ListN.{length, get_or}
-use Rattle.lists.specs.Bool.{turned, passed}
-use Rattle.lists.specs.Bounded.{all, all_none, all_more, all_fails, all_done}
+use Rattle.lists.specs.Bounded.{all}
 use Rattle.cell_patterns.specs.Flat.{pair_right}
-use Rattle.cell_patterns.specs.PatternFacts.{group_right}
 use Rattle.cell_patterns.proofs.group_right.Given as goal
 
 abbrev pub invariant-loop-k : goal.invariant-loop-k

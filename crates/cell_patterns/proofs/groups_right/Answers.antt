@@ -1,14 +1,10 @@
 -- See Invariants.antt. Assumes nothing.
-use mathlib.Core.Path.{◌≡◌, sym}
-use mathlib.Core.Bool.{true}
-use Prim.Native.Nat.{◌<◌, ◌≤◌, ◌-◌}
+use mathlib.Core.Path.{sym}
+use Prim.Native.Nat.{◌<◌}
 use native.Mathlib.Omega.{arith}
 use lib.ListN.{length}
 use Rattle.lists.specs.Bool.{turned, passed}
-use Rattle.lists.specs.Bounded.{all, all_none, all_more, all_fails, all_done}
-use Rattle.cells_by_key.specs.Groups.{part}
-use Rattle.cell_patterns.specs.PatternFacts.{group_right}
-use borrow.Author.Rules.{rules}
+use Rattle.lists.specs.Bounded.{all_none, all_more, all_fails, all_done}
 use Rattle.cell_patterns.proofs.groups_right.Goals as goal
 
 pub loop-v-init : goal.loop-v-init

@@ -1,11 +1,8 @@
 -- `cell_patterns::groups_right` meets its contract. The invariant of its loop: the cells at the vertices below v pass. Assumes nothing.
-use mathlib.Core.Path.{◌≡◌, sym}
+use mathlib.Core.Path.{◌≡◌}
 use mathlib.Core.Bool.{true}
-use Prim.Native.Nat.{◌<◌, ◌≤◌, ◌-◌}
-use native.Mathlib.Omega.{arith}
-use lib.ListN.{length}
-use Rattle.lists.specs.Bool.{turned, passed}
-use Rattle.lists.specs.Bounded.{all, all_none, all_more, all_fails, all_done}
+use Prim.Native.Nat.{◌≤◌, ◌-◌}
+use Rattle.lists.specs.Bounded.{all}
 use Rattle.cells_by_key.specs.Groups.{part}
 use Rattle.cell_patterns.specs.PatternFacts.{group_right}
 use Rattle.cell_patterns.proofs.groups_right.Given as goal

@@ -1,6 +1,5 @@
 -- `cell_patterns::lower_of` meets its contract: each return has the test that led there. Assumes nothing.
 use Rattle.lists.specs.Bool.{◌and◌}
-use borrow.Author.Rules.{rules}
 use Rattle.cell_patterns.proofs.lower_of.Goals as goal
 
 pub returns-then-counts-x : goal.returns-then-counts-x

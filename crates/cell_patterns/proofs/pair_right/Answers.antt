@@ -2,7 +2,6 @@
 use mathlib.Core.Path.{ap₂, ◌∙◌}
 use Rattle.triangle_patterns.specs.Triangles.{cells_right}
 use Rattle.cell_patterns.specs.PatternFacts.{cell_few, both_apart, both_other, both_have}
-use borrow.Author.Rules.{rules}
 use Rattle.cell_patterns.proofs.pair_right.Goals as goal
 
 pub triangles_right-requires : goal.triangles_right-requires

@@ -2,7 +2,6 @@
 use mathlib.Core.Path.{ap₂, ◌∙◌}
 use Rattle.cell_pairs.specs.Patterns.{cells_pattern}
 use Rattle.cell_patterns.specs.PatternFacts.{cell_few, both_apart, both_have}
-use borrow.Author.Rules.{rules}
 use Rattle.cell_patterns.proofs.pattern_of.Goals as goal
 
 pub triangles_pattern-requires : goal.triangles_pattern-requires

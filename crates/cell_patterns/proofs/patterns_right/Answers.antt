@@ -6,7 +6,6 @@ use lib.ListN.{length}
 use Rattle.grid.specs.Mesh.{most_cells, most_vertices}
 use Rattle.cells_by_key.specs.Groups.{Below}
 use Rattle.cells_by_key.specs.GroupsFacts.{scratch, scratch_zeros}
-use borrow.Author.Rules.{rules}
 use Rattle.cell_patterns.proofs.patterns_right.Goals as goal
 
 pub slice_bounds-sorted_right-end : goal.slice_bounds-sorted_right-end

@@ -1,11 +1,9 @@
 -- `cell_patterns::row_right` meets its contract. The invariant of its loop: the pairs of the first k cells pass. Assumes nothing.
-use mathlib.Core.Path.{◌≡◌, sym}
+use mathlib.Core.Path.{◌≡◌}
 use mathlib.Core.Bool.{true}
-use Prim.Native.Nat.{◌+◌, ◌*◌, ◌≤◌, ◌-◌}
-use native.Mathlib.Omega.{arith}
+use Prim.Native.Nat.{◌≤◌, ◌-◌}
 use lib.ListN.{length, get_or}
-use Rattle.lists.specs.Bool.{turned, passed}
-use Rattle.lists.specs.Bounded.{all, all_none, all_more, all_fails, all_done}
+use Rattle.lists.specs.Bounded.{all}
 use Rattle.cell_patterns.specs.Flat.{pair_right}
 use Rattle.cell_patterns.proofs.row_right.Given as goal
 

@@ -1,6 +1,5 @@
 -- `cell_patterns::smallest_shared` meets its contract: four calls of `lower_of`, as in `lowest`. Assumes nothing.
 use Rattle.cell_patterns.specs.PatternFacts.{smallest_by}
-use borrow.Author.Rules.{rules}
 use Rattle.cell_patterns.proofs.smallest_shared.Goals as goal
 
 pub returns : goal.returns

@@ -3,7 +3,6 @@
 use native.Mathlib.Omega.{arith}
 use Rattle.cells_by_key.specs.GroupsFacts.{grouped_cut, group_cells}
 use Rattle.cell_patterns.specs.PatternFacts.{parts_all}
-use borrow.Author.Rules.{rules}
 use Rattle.cell_patterns.proofs.sorted_right.Goals as goal
 
 pub groups_right-requires : goal.groups_right-requires

@@ -1,12 +1,8 @@
 -- See Invariants.antt. Assumes nothing.
-use mathlib.Core.Path.{◌≡◌, sym, ap, ◌∙◌}
-use mathlib.Core.Bool.{true, not}
-use Prim.Native.Nat.{◌≤◌, ◌-◌}
+use mathlib.Core.Path.{sym, ap, ◌∙◌}
+use mathlib.Core.Bool.{not}
 use native.Mathlib.Omega.{arith}
-use lib.ListN.{length, get_or}
-use Rattle.lists.specs.Bounded.{all, all_none, all_more, all_fails, all_done}
-use Rattle.coincident_cells.specs.Differ.{earlier}
-use borrow.Author.Rules.{rules}
+use Rattle.lists.specs.Bounded.{all_none, all_more, all_fails, all_done}
 use Rattle.coincident_cells.proofs.alone.Goals as goal
 
 pub loop-k-init : goal.loop-k-init

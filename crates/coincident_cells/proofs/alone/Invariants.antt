@@ -1,10 +1,9 @@
 -- `coincident_cells::alone` meets its contract. The invariant of its loop: none of the first k cells is such a one. Assumes nothing.
-use mathlib.Core.Path.{◌≡◌, sym, ap, ◌∙◌}
+use mathlib.Core.Path.{◌≡◌}
 use mathlib.Core.Bool.{true, not}
 use Prim.Native.Nat.{◌≤◌, ◌-◌}
-use native.Mathlib.Omega.{arith}
 use lib.ListN.{length, get_or}
-use Rattle.lists.specs.Bounded.{all, all_none, all_more, all_fails, all_done}
+use Rattle.lists.specs.Bounded.{all}
 use Rattle.coincident_cells.specs.Differ.{earlier}
 use Rattle.coincident_cells.proofs.alone.Given as goal
 

@@ -1,16 +1,12 @@
 -- See Invariants.antt. Assumes nothing.
-use mathlib.Core.Path.{◌≡◌, refl, sym}
-use mathlib.Core.Bool.{true, not}
-use Prim.Native.Nat.{◌+◌, ◌*◌, ◌/◌, ◌≤◌, ◌-◌}
+use mathlib.Core.Path.{refl, sym}
+use Prim.Native.Nat.{◌+◌, ◌*◌, ◌≤◌}
 use native.Mathlib.Omega.{arith}
 use lib.ListN.{length}
 use Rattle.lists.specs.Bool.{turned, passed}
-use Rattle.lists.specs.Bounded.{all, all_none, all_more, all_fails, all_done}
-use Rattle.grid.specs.Rows.{cell_in}
-use Rattle.cell_pairs.specs.Patterns.{same_vertices}
+use Rattle.lists.specs.Bounded.{all_none, all_more, all_fails, all_done}
 use Rattle.coincident_cells.specs.Differ.{differ_in}
 use Rattle.coincident_cells.specs.DifferFacts.{entity_rise, vertex_bounds, vertex_cells, alone_at}
-use borrow.Author.Rules.{rules}
 use Rattle.coincident_cells.proofs.cells_differ.Goals as goal
 
 pub loop-i-init : goal.loop-i-init

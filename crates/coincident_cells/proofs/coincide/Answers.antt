@@ -3,7 +3,6 @@ use mathlib.Core.Path.{sym, ap₂, ◌∙◌}
 use borrow.Author.Tests.{lt-ltb, le-ltb}
 use Rattle.lists.specs.Bool.{◌and◌, and_no_left}
 use Rattle.cell_pairs.specs.Patterns.{same_vertices}
-use borrow.Author.Rules.{rules}
 use Rattle.coincident_cells.proofs.coincide.Goals as goal
 
 pub returns-then-j-i : goal.returns-then-j-i

@@ -1,7 +1,6 @@
 -- See Invariants.antt. Assumes nothing.
 use mathlib.Core.Path.{◌≡◌, sym, ap, ◌∙◌}
-use mathlib.Core.Bool.{false}
-use Prim.Native.Nat.{ℕ, ◌≤◌, ◌-◌}
+use Prim.Native.Nat.{ℕ}
 use native.Mathlib.Omega.{arith}
 use lib.ListN.{length, get_or}
 use lib.Dec.{eqb}
@@ -10,7 +9,6 @@ use Rattle.lists.specs.Bool.{or_none}
 use Rattle.lists.specs.Bounded.{some, some_start, some_more}
 use Rattle.grid.specs.Cells.{has}
 use Rattle.grid.specs.CellsFacts.{has_at}
-use borrow.Author.Rules.{rules}
 use Rattle.coincident_cells.proofs.has_vertex.Goals as goal
 
 pub loop-p-init : goal.loop-p-init

@@ -1,15 +1,10 @@
 -- `coincident_cells::has_vertex` meets its contract. The invariant of its loop: x is none of the first p vertices. Assumes nothing.
-use mathlib.Core.Path.{◌≡◌, sym, ap, ◌∙◌}
+use mathlib.Core.Path.{◌≡◌}
 use mathlib.Core.Bool.{false}
-use Prim.Native.Nat.{ℕ, ◌≤◌, ◌-◌}
-use native.Mathlib.Omega.{arith}
+use Prim.Native.Nat.{◌≤◌, ◌-◌}
 use lib.ListN.{length, get_or}
 use lib.Dec.{eqb}
-use borrow.Author.Tests.{ne_eqb}
-use Rattle.lists.specs.Bool.{or_none}
-use Rattle.lists.specs.Bounded.{some, some_start, some_more}
-use Rattle.grid.specs.Cells.{has}
-use Rattle.grid.specs.CellsFacts.{has_at}
+use Rattle.lists.specs.Bounded.{some}
 use Rattle.coincident_cells.proofs.has_vertex.Given as goal
 
 abbrev pub invariant-loop-p : goal.invariant-loop-p

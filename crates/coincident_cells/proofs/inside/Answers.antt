@@ -1,13 +1,8 @@
 -- See Invariants.antt. Assumes nothing.
-use mathlib.Core.Path.{◌≡◌, sym}
-use mathlib.Core.Bool.{true}
-use Prim.Native.Nat.{◌≤◌, ◌-◌}
+use mathlib.Core.Path.{sym}
 use native.Mathlib.Omega.{arith}
-use lib.ListN.{length, get_or}
-use Rattle.lists.specs.Bounded.{all, all_none, all_more, all_fails, all_done}
-use Rattle.grid.specs.Cells.{has}
+use Rattle.lists.specs.Bounded.{all_none, all_more, all_fails, all_done}
 use Rattle.lists.specs.Bool.{turned, passed}
-use borrow.Author.Rules.{rules}
 use Rattle.coincident_cells.proofs.inside.Goals as goal
 
 pub loop-p-init : goal.loop-p-init

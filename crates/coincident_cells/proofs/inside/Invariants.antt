@@ -1,12 +1,10 @@
 -- `coincident_cells::inside` meets its contract. The invariant of its loop: the first p vertices are the other cell's. Assumes nothing.
-use mathlib.Core.Path.{◌≡◌, sym}
+use mathlib.Core.Path.{◌≡◌}
 use mathlib.Core.Bool.{true}
 use Prim.Native.Nat.{◌≤◌, ◌-◌}
-use native.Mathlib.Omega.{arith}
 use lib.ListN.{length, get_or}
-use Rattle.lists.specs.Bounded.{all, all_none, all_more, all_fails, all_done}
+use Rattle.lists.specs.Bounded.{all}
 use Rattle.grid.specs.Cells.{has}
-use Rattle.lists.specs.Bool.{turned, passed}
 use Rattle.coincident_cells.proofs.inside.Given as goal
 
 abbrev pub invariant-loop-p : goal.invariant-loop-p

@@ -1,7 +1,6 @@
 -- `coincident_cells::rarer` meets its contract. Assumes nothing.
 use mathlib.Core.Path.{refl}
 use mathlib.Core.Logic.{inl, inr}
-use borrow.Author.Rules.{rules}
 use Rattle.coincident_cells.proofs.rarer.Goals as goal
 
 pub size_of-requires : goal.size_of-requires

@@ -1,7 +1,6 @@
 -- `coincident_cells::rarest` meets its contract. Assumes nothing.
 use native.Mathlib.Omega.{arith}
 use Rattle.coincident_cells.specs.DifferFacts.{either_below, one_of_three}
-use borrow.Author.Rules.{rules}
 use Rattle.coincident_cells.proofs.rarest.Goals as goal
 
 pub rarer-requires : goal.rarer-requires

@@ -1,6 +1,5 @@
 -- `coincident_cells::same_vertices` meets its contract. Assumes nothing.
 use Rattle.coincident_cells.specs.DifferFacts.{same_found, same_missed}
-use borrow.Author.Rules.{rules}
 use Rattle.coincident_cells.proofs.same_vertices.Goals as goal
 
 pub returns-then-inside : goal.returns-then-inside

@@ -1,7 +1,6 @@
 -- `function::dims_right` meets its contract. Assumes nothing.
 use Rattle.lists.specs.Bool.{◌and◌}
 use Rattle.function.specs.Elements.{dims_right}
-use borrow.Author.Rules.{rules}
 use Rattle.function.proofs.dims_right.Goals as goal
 
 pub returns : goal.returns

@@ -1,7 +1,6 @@
 -- `function::is_dim` meets its contract: `&` of two tests is `_and_`. Assumes nothing.
 use mathlib.Core.Path.{refl}
 use Rattle.lists.specs.Bool.{◌and◌}
-use borrow.Author.Rules.{rules}
 use Rattle.function.proofs.is_dim.Goals as goal
 
 pub returns : goal.returns

@@ -2,7 +2,6 @@
 use mathlib.Core.Path.{ap, ap₂}
 use lib.Ieee.{Float}
 use Rattle.numbers.specs.Floats.{◌⊖◌, ◌⊗◌}
-use borrow.Author.Rules.{rules}
 use Rattle.integrands.proofs.curl_at.Goals as goal
 
 pub returns : goal.returns

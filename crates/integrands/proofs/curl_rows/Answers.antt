@@ -1,12 +1,8 @@
 -- See Invariants.antt. Assumes nothing.
 use mathlib.Core.Path.{◌≡◌, sym}
-use Prim.Native.Nat.{ℕ, ◌-◌, ◌≤◌}
 use native.Mathlib.Nat.{zero-add}
 use native.Mathlib.Omega.{arith}
-use lib.Ieee.{Float, nan}
-use Rattle.lists.specs.Maps.{Mapped, mapped_start, mapped_turn}
-use Rattle.integrands.specs.Values.{curl}
-use Rattle.table.specs.Rows.{table_row}
+use Rattle.lists.specs.Maps.{mapped_start, mapped_turn}
 use Rattle.integrands.specs.Columns.{table_reach}
 use borrow.Author.Rules.{rules}
 use Rattle.integrands.proofs.curl_rows.Goals as goal

@@ -1,13 +1,9 @@
 -- `integrands::curl_rows` meets its contract: the invariant is that the elements passed are mapped. Assumes nothing.
-use mathlib.Core.Path.{◌≡◌, sym}
 use Prim.Native.Nat.{ℕ, ◌-◌, ◌≤◌}
-use native.Mathlib.Nat.{zero-add}
-use native.Mathlib.Omega.{arith}
 use lib.Ieee.{Float, nan}
-use Rattle.lists.specs.Maps.{Mapped, mapped_start, mapped_turn}
+use Rattle.lists.specs.Maps.{Mapped}
 use Rattle.integrands.specs.Values.{curl}
 use Rattle.table.specs.Rows.{table_row}
-use Rattle.integrands.specs.Columns.{table_reach}
 use Rattle.integrands.proofs.curl_rows.Given as goal
 
 abbrev pub invariant-loop-b : goal.invariant-loop-b

@@ -1,6 +1,5 @@
 -- `integrands::evaluate` meets its contract. Assumes nothing.
 use Rattle.integrands.specs.Parts.{from_sides}
-use borrow.Author.Rules.{rules}
 use Rattle.integrands.proofs.evaluate.Goals as goal
 
 pub returns-then-x : goal.returns-then-x

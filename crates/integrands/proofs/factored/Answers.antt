@@ -1,6 +1,5 @@
 -- `integrands::factored` meets its contract: in each arm the term is that constructor, at which `factored` computes. Assumes nothing.
 use Rattle.integrands.specs.Parts.{factored}
-use borrow.Author.Rules.{rules}
 use Rattle.integrands.proofs.factored.Goals as goal
 
 pub returns-in-Bare : goal.returns-in-Bare

@@ -2,7 +2,6 @@
 -- Assumes nothing.
 use mathlib.Core.Path.{refl}
 use Rattle.integrands.specs.Values.{geometry_at}
-use borrow.Author.Rules.{rules}
 use Rattle.integrands.proofs.geometry_at.Goals as goal
 
 pub returns : goal.returns

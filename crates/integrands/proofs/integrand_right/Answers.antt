@@ -1,7 +1,6 @@
 -- `integrands::integrand_right` meets its contract: the second term's test is joined where it is read. Assumes nothing.
 use borrow.Author.Tests.{eq-eqb, ne_eqb}
 use Rattle.integrands.specs.TermFacts.{one_right, two_right}
-use borrow.Author.Rules.{rules}
 use Rattle.integrands.proofs.integrand_right.Goals as goal
 
 pub returns-then-f-eq1 : goal.returns-then-f-eq1

@@ -1,7 +1,6 @@
 -- `integrands::kernel_width` meets its contract: the test is the definition's. Assumes nothing.
 use mathlib.Core.Bool.{true, false}
 use Rattle.integrands.specs.TermFacts.{kernel_width_is}
-use borrow.Author.Rules.{rules}
 use Rattle.integrands.proofs.kernel_width.Goals as goal
 
 pub returns-then-a-f : goal.returns-then-a-f

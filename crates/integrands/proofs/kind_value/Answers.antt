@@ -4,7 +4,6 @@ use Prim.Native.Nat.{ℕ}
 use native.Mathlib.Nat.{zero-add}
 use Rattle.numbers.specs.Floats.{◌!◌}
 use Rattle.integrands.specs.ValueFacts.{single_layer_holds, double_layer_holds, adjoint_layer, curl_curl_holds, normal_normal_holds, last_kind}
-use borrow.Author.Rules.{rules}
 use Rattle.integrands.proofs.kind_value.Goals as goal
 
 pub along_normal-requires : goal.along_normal-requires

@@ -1,12 +1,10 @@
 -- See Invariants.antt. Assumes nothing.
 use mathlib.Core.Path.{◌≡◌, sym, ap}
-use Prim.Native.Nat.{ℕ, ◌-◌, ◌≤◌}
 use native.Mathlib.Nat.{zero-add}
 use native.Mathlib.Omega.{arith}
-use lib.Ieee.{Float, nan}
-use Rattle.lists.specs.Maps.{Mapped, mapped_start, mapped_turn}
+use lib.Ieee.{Float}
+use Rattle.lists.specs.Maps.{mapped_start, mapped_turn}
 use Rattle.numbers.specs.Floats.{◌⊗◌}
-use Rattle.table.specs.Rows.{table_row}
 use Rattle.integrands.specs.Columns.{table_reach}
 use borrow.Author.Rules.{rules}
 use Rattle.integrands.proofs.scaled_rows.Goals as goal

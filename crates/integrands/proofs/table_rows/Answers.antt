@@ -1,7 +1,6 @@
 -- `integrands::table_rows` meets its contract: the test is the definition's. Assumes nothing.
 use mathlib.Core.Bool.{true, false}
 use Rattle.integrands.specs.TermFacts.{table_rows_is}
-use borrow.Author.Rules.{rules}
 use Rattle.integrands.proofs.table_rows.Goals as goal
 
 pub returns-then-a-f : goal.returns-then-a-f

@@ -1,7 +1,6 @@
 -- `integrands::term_right` meets its contract: in each arm the term is that constructor, at which `term_right` computes. Assumes nothing.
 use Rattle.lists.specs.Bool.{◌and◌}
 use Rattle.integrands.specs.Terms.{term_right}
-use borrow.Author.Rules.{rules}
 use Rattle.integrands.proofs.term_right.Goals as goal
 
 pub returns-in-Bare : goal.returns-in-Bare

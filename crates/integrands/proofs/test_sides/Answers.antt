@@ -3,7 +3,6 @@ use mathlib.Core.Path.{sym, ◌∙◌}
 use Rattle.lists.specs.Bool.{true≢false}
 use native.Mathlib.Nat.{zero-add}
 use Rattle.lists.specs.Maps.{mapped_at}
-use borrow.Author.Rules.{rules}
 use Rattle.integrands.proofs.test_sides.Goals as goal
 
 pub curl_rows-requires : goal.curl_rows-requires

@@ -1,7 +1,6 @@
 -- `integrands::trial_side` meets its contract. Assumes nothing.
 use mathlib.Core.Path.{sym, ◌∙◌}
 use Rattle.lists.specs.Bool.{true≢false}
-use borrow.Author.Rules.{rules}
 use Rattle.integrands.proofs.trial_side.Goals as goal
 
 pub curl_at-requires : goal.curl_at-requires

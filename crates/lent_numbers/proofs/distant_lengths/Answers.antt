@@ -4,7 +4,6 @@ use native.Mathlib.Omega.{arith}
 use Rattle.lists.specs.Bool.{◌and◌, every}
 use Rattle.lent_numbers.specs.Lent.{distant_lengths}
 use Rattle.lent_numbers.specs.Sizes.{small_table, small_kernel, small_pairs}
-use borrow.Author.Rules.{rules}
 use Rattle.lent_numbers.proofs.distant_lengths.Goals as goal
 
 pub overflow_mul-result : goal.overflow_mul-result

@@ -1,7 +1,6 @@
 -- `lent_numbers::distant_numbers` meets its contract: the tests are the definition's. Assumes nothing.
 use Rattle.lists.specs.Bool.{◌and◌, every}
 use Rattle.lent_numbers.specs.Lent.{distant_numbers}
-use borrow.Author.Rules.{rules}
 use Rattle.lent_numbers.proofs.distant_numbers.Goals as goal
 
 pub returns : goal.returns

@@ -5,7 +5,6 @@ use Rattle.lists.specs.Refusals.{answers, accepted, refused, ◌then◌}
 use borrow.Author.Tests.{not-true, not-false}
 use Rattle.lent_numbers.specs.Lent.{distant_counts}
 use Rattle.lent_numbers.specs.Sizes.{distant_sizes, few_points}
-use borrow.Author.Rules.{rules}
 use Rattle.lent_numbers.proofs.distant_refusal.Goals as goal
 
 pub returns-then-not-test_points-trial_points : goal.returns-then-not-test_points-trial_points

@@ -1,11 +1,8 @@
 -- See Invariants.antt. Assumes nothing.
 use mathlib.Core.Path.{◌≡◌, sym}
-use Prim.Native.Nat.{◌*◌, ◌-◌, ◌≤◌}
 use native.Mathlib.Omega.{arith}
-use lib.Ieee as Ieee
 use Rattle.lists.specs.Bool.{◌and◌}
-use Rattle.lists.specs.Bounded.{all, all_none, all_next}
-use Rattle.numbers.specs.Floats.{0·0, ◌!◌}
+use Rattle.lists.specs.Bounded.{all_none, all_next}
 use Rattle.lent_numbers.specs.Lent.{jdets_above0}
 use borrow.Author.Rules.{rules}
 use Rattle.lent_numbers.proofs.jdets_above_0.Goals as goal

@@ -1,12 +1,9 @@
 -- `lent_numbers::jdets_above_0` meets its contract: the invariant is that the answer is that of the points passed. Assumes nothing.
-use mathlib.Core.Path.{◌≡◌, sym}
+use mathlib.Core.Path.{◌≡◌}
 use Prim.Native.Nat.{◌*◌, ◌-◌, ◌≤◌}
-use native.Mathlib.Omega.{arith}
 use lib.Ieee as Ieee
-use Rattle.lists.specs.Bool.{◌and◌}
-use Rattle.lists.specs.Bounded.{all, all_none, all_next}
+use Rattle.lists.specs.Bounded.{all}
 use Rattle.numbers.specs.Floats.{0·0, ◌!◌}
-use Rattle.lent_numbers.specs.Lent.{jdets_above0}
 use Rattle.lent_numbers.proofs.jdets_above_0.Given as goal
 
 abbrev pub invariant-loop-p : goal.invariant-loop-p

@@ -3,7 +3,6 @@ use native.Mathlib.Omega.{arith}
 use Rattle.lists.specs.Bool.{◌and◌, every}
 use Rattle.lent_numbers.specs.Lent.{touching_lengths}
 use Rattle.lent_numbers.specs.Sizes.{small_table, small_kernel}
-use borrow.Author.Rules.{rules}
 use Rattle.lent_numbers.proofs.touching_lengths.Goals as goal
 
 pub overflow_mul-result : goal.overflow_mul-result

@@ -1,7 +1,6 @@
 -- `lent_numbers::touching_numbers` meets its contract: the tests are the definition's. Assumes nothing.
 use Rattle.lists.specs.Bool.{◌and◌, every}
 use Rattle.lent_numbers.specs.Lent.{touching_numbers}
-use borrow.Author.Rules.{rules}
 use Rattle.lent_numbers.proofs.touching_numbers.Goals as goal
 
 pub returns : goal.returns

@@ -6,7 +6,6 @@ use borrow.Author.Tests.{not-true, not-false}
 use Rattle.numbers.specs.Ranges.{within_high}
 use Rattle.lent_numbers.specs.Lent.{most_touching_points, touching_count}
 use Rattle.lent_numbers.specs.Sizes.{touching_sizes}
-use borrow.Author.Rules.{rules}
 use Rattle.lent_numbers.proofs.touching_refusal.Goals as goal
 
 pub returns-then-not-points : goal.returns-then-not-points

@@ -1,11 +1,7 @@
 -- See Invariants.antt. Assumes nothing.
-use Prim.Native.Nat.{◌≤◌, ◌-◌}
 use native.Mathlib.Omega.{arith}
-use mathlib.Core.Bool.{true}
-use mathlib.Core.Path.{◌≡◌, sym}
-use Rattle.lists.specs.Bounded.{all, all_none, all_more, all_fails, all_done}
-use lib.ListN.{length, get_or}
-use lib.Dec.{ltb}
+use mathlib.Core.Path.{sym}
+use Rattle.lists.specs.Bounded.{all_none, all_more, all_fails, all_done}
 use borrow.Author.Tests.{lt-ltb, le-ltb}
 use Rattle.numbers.specs.Ranges.{all_below}
 use borrow.Author.Rules.{rules}

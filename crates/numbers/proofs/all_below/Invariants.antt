@@ -1,13 +1,10 @@
 -- `numbers::all_below` meets its contract. The invariant: each number passed is below the bound (`all k`). Assumes nothing.
 use Prim.Native.Nat.{◌≤◌, ◌-◌}
-use native.Mathlib.Omega.{arith}
 use mathlib.Core.Bool.{true}
-use mathlib.Core.Path.{◌≡◌, sym}
-use Rattle.lists.specs.Bounded.{all, all_none, all_more, all_fails, all_done}
+use mathlib.Core.Path.{◌≡◌}
+use Rattle.lists.specs.Bounded.{all}
 use lib.ListN.{length, get_or}
 use lib.Dec.{ltb}
-use borrow.Author.Tests.{lt-ltb, le-ltb}
-use Rattle.numbers.specs.Ranges.{all_below}
 use Rattle.numbers.proofs.all_below.Given as goal
 
 abbrev pub invariant-loop-k : goal.invariant-loop-k

@@ -1,11 +1,10 @@
 -- See Invariants.antt. Assumes nothing.
 use mathlib.Core.Path.{◌≡◌, refl, sym}
-use Prim.Native.Nat.{◌-◌, ◌≤◌}
 use native.Mathlib.Omega.{arith}
 use lib.ListN.{length}
 use Rattle.lists.specs.Bool.{◌and◌}
-use Rattle.lists.specs.Bounded.{all, all_none, all_next}
-use Rattle.numbers.specs.Floats.{◌!◌, finite, all_finite}
+use Rattle.lists.specs.Bounded.{all_none, all_next}
+use Rattle.numbers.specs.Floats.{all_finite}
 use borrow.Author.Rules.{rules}
 use Rattle.numbers.proofs.all_finite.Goals as goal
 

@@ -1,11 +1,9 @@
 -- `numbers::all_finite` meets its contract: the invariant is that the answer is that of the numbers passed. Assumes nothing.
-use mathlib.Core.Path.{◌≡◌, refl, sym}
+use mathlib.Core.Path.{◌≡◌}
 use Prim.Native.Nat.{◌-◌, ◌≤◌}
-use native.Mathlib.Omega.{arith}
 use lib.ListN.{length}
-use Rattle.lists.specs.Bool.{◌and◌}
-use Rattle.lists.specs.Bounded.{all, all_none, all_next}
-use Rattle.numbers.specs.Floats.{◌!◌, finite, all_finite}
+use Rattle.lists.specs.Bounded.{all}
+use Rattle.numbers.specs.Floats.{◌!◌, finite}
 use Rattle.numbers.proofs.all_finite.Given as goal
 
 abbrev pub invariant-loop-i : goal.invariant-loop-i

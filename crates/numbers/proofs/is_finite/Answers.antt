@@ -12,7 +12,6 @@ use lib.Ieee as Ieee
 use lib.Ieee.{Float, nan, inf, fin, binary64, down, up}
 use lib.Ieee.Scale.{round_same}
 use Rattle.numbers.specs.Floats.{0·0, ◌⊖◌, finite}
-use borrow.Author.Rules.{rules}
 use Rattle.numbers.proofs.is_finite.Goals as goal
 
 down_some : (e : _) → 0 < down e

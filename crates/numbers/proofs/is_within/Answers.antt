@@ -1,7 +1,6 @@
 -- `numbers::is_within` meets its contract: `&` of two tests is `_and_`. Assumes nothing.
 use mathlib.Core.Path.{refl}
 use Rattle.lists.specs.Bool.{◌and◌}
-use borrow.Author.Rules.{rules}
 use Rattle.numbers.proofs.is_within.Goals as goal
 
 pub returns : goal.returns

@@ -2,7 +2,6 @@
 use mathlib.Core.Path.{refl}
 use Rattle.cell_pairs.specs.Table.{table}
 use Rattle.pattern_table.specs.Numbers.{code_on, code_of, table_rows}
-use borrow.Author.Rules.{rules}
 use Rattle.pattern_table.proofs.table_row.Goals as goal
 
 pub returns : goal.returns

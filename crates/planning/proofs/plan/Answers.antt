@@ -2,7 +2,6 @@
 use mathlib.Core.Path.{sym, ◌∙◌}
 use Rattle.plans.specs.Accepted.{accepted}
 use Rattle.planning.specs.Plan.{plan_refused, plan_ready}
-use borrow.Author.Rules.{rules}
 use Rattle.planning.proofs.plan.Goals as goal
 
 pub returns-then-v-ne0 : goal.returns-then-v-ne0

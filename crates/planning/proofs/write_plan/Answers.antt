@@ -1,7 +1,6 @@
 -- `planning::write_plan` meets its contract: what each call asks follows from the checks that passed. Assumes nothing.
 use Rattle.plans.specs.Accepted.{test_fits, trial_fits}
 use Rattle.planning.specs.Plan.{lens, numbering_needs, numbering_gives, colourable, work_ready, kind_counts, numbers_are, lists_are}
-use borrow.Author.Rules.{rules}
 use Rattle.planning.proofs.write_plan.Goals as goal
 
 pub assign_dofs-rows-requires : goal.assign_dofs-rows-requires

@@ -1,12 +1,10 @@
 -- See Invariants.antt. Assumes nothing.
-use Prim.Native.Nat.{ℕ, ◌+◌, ◌*◌, ◌-◌, ◌<◌}
+use Prim.Native.Nat.{◌+◌, ◌*◌, ◌<◌}
 use native.Mathlib.Omega.{arith}
 use lib.ListN.{length, get_or}
-use Rattle.lists.specs.Fold.{Folded, folded_start, folded_done}
+use Rattle.lists.specs.Fold.{folded_start, folded_done}
 use Rattle.scatter.specs.Adding.{add_at}
-use Rattle.scatter.specs.Entries.{entry_at, add_row}
 use Rattle.scatter.specs.AddingFacts.{in_hundred, row_turn}
-use borrow.Author.Rules.{rules}
 use Rattle.scatter.proofs.add_column.Goals as goal
 use Rattle.scatter.proofs.add_column.Goals.{In-loop-i}
 

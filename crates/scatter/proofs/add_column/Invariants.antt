@@ -1,12 +1,9 @@
 -- `scatter::add_column` meets its contract: the invariant is that the matrix is the fold over the test basis passed, and as long as it was.
 -- Assumes nothing.
-use Prim.Native.Nat.{ℕ, ◌+◌, ◌*◌, ◌-◌, ◌<◌}
-use native.Mathlib.Omega.{arith}
-use lib.ListN.{length, get_or}
-use Rattle.lists.specs.Fold.{Folded, folded_start, folded_done}
-use Rattle.scatter.specs.Adding.{add_at}
+use Prim.Native.Nat.{ℕ, ◌-◌}
+use lib.ListN.{length}
+use Rattle.lists.specs.Fold.{Folded}
 use Rattle.scatter.specs.Entries.{entry_at, add_row}
-use Rattle.scatter.specs.AddingFacts.{in_hundred, row_turn}
 use Rattle.scatter.proofs.add_column.Given as goal
 
 abbrev pub invariant-loop-i : goal.invariant-loop-i

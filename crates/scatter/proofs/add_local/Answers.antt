@@ -1,12 +1,8 @@
 -- See Invariants.antt. Assumes nothing.
 use mathlib.Core.Path.{◌∙◌}
-use Prim.Native.Nat.{◌-◌}
 use native.Mathlib.Omega.{arith}
-use lib.ListN.{length}
-use Rattle.lists.specs.Fold.{Folded, folded_start, folded_done}
-use Rattle.scatter.specs.Entries.{entry_at, add_trial}
+use Rattle.lists.specs.Fold.{folded_start, folded_done}
 use Rattle.scatter.specs.AddingFacts.{column_fits, trial_turn, trial_all}
-use borrow.Author.Rules.{rules}
 use Rattle.scatter.proofs.add_local.Goals as goal
 
 pub loop-j-init : goal.loop-j-init

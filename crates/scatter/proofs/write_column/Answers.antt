@@ -1,8 +1,6 @@
 -- See Invariants.antt. Assumes nothing.
-use Prim.Native.Nat.{ℕ, ◌-◌}
 use native.Mathlib.Omega.{arith}
-use Rattle.lists.specs.Writes.{Stores, stores_start, stores_turn, stores_done}
-use borrow.Author.Rules.{rules}
+use Rattle.lists.specs.Writes.{stores_start, stores_turn, stores_done}
 use Rattle.scatter.proofs.write_column.Goals as goal
 
 pub loop-i-init : goal.loop-i-init

@@ -1,7 +1,6 @@
 -- `scatter::write_column` meets its contract. The invariant of its loop: the places below i are written. Assumes nothing.
 use Prim.Native.Nat.{ℕ, ◌-◌}
-use native.Mathlib.Omega.{arith}
-use Rattle.lists.specs.Writes.{Stores, stores_start, stores_turn, stores_done}
+use Rattle.lists.specs.Writes.{Stores}
 use Rattle.scatter.proofs.write_column.Given as goal
 
 abbrev pub invariant-loop-i : goal.invariant-loop-i

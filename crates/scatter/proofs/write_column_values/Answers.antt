@@ -1,10 +1,8 @@
 -- See Invariants.antt. Assumes nothing.
-use Prim.Native.Nat.{ℕ, ◌+◌, ◌*◌, ◌-◌, ◌<◌}
+use Prim.Native.Nat.{◌+◌, ◌*◌, ◌<◌}
 use native.Mathlib.Omega.{arith}
-use Rattle.lists.specs.Writes.{Stores, stores_start, stores_turn, stores_done}
-use Rattle.scatter.specs.Entries.{entry_at}
+use Rattle.lists.specs.Writes.{stores_start, stores_turn, stores_done}
 use Rattle.scatter.specs.AddingFacts.{in_hundred}
-use borrow.Author.Rules.{rules}
 use Rattle.scatter.proofs.write_column_values.Goals as goal
 use Rattle.scatter.proofs.write_column_values.Goals.{In-loop-i}
 

@@ -1,10 +1,8 @@
 -- `scatter::write_column_values` meets its contract. The invariant of its loop: the entries of the test basis below i are written.
 -- Assumes nothing.
-use Prim.Native.Nat.{ℕ, ◌+◌, ◌*◌, ◌-◌, ◌<◌}
-use native.Mathlib.Omega.{arith}
-use Rattle.lists.specs.Writes.{Stores, stores_start, stores_turn, stores_done}
+use Prim.Native.Nat.{ℕ, ◌-◌}
+use Rattle.lists.specs.Writes.{Stores}
 use Rattle.scatter.specs.Entries.{entry_at}
-use Rattle.scatter.specs.AddingFacts.{in_hundred}
 use Rattle.scatter.proofs.write_column_values.Given as goal
 
 abbrev pub invariant-loop-i : goal.invariant-loop-i

@@ -1,13 +1,10 @@
 -- See Invariants.antt. Assumes nothing.
-use mathlib.Core.List.{map}
 use mathlib.Core.Path.{◌∙◌}
-use Prim.Native.Nat.{ℕ, ◌-◌}
 use native.Mathlib.Omega.{arith}
-use lib.ListN.{length, get_or, length-map}
+use lib.ListN.{length-map}
 use Rattle.lists.specs.Range.{range, length_range}
-use Rattle.lists.specs.Writes.{Blocks, blocks_start, blocks_room, blocks_turn, blocks_done}
+use Rattle.lists.specs.Writes.{blocks_start, blocks_room, blocks_turn, blocks_done}
 use Rattle.scatter.specs.AddingFacts.{columns_places}
-use borrow.Author.Rules.{rules}
 use Rattle.scatter.proofs.write_columns.Goals as goal
 
 pub loop-j-init : goal.loop-j-init

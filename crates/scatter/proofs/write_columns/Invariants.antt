@@ -1,12 +1,9 @@
 -- `scatter::write_columns` meets its contract. The invariant of its loop: the columns below j are written. Assumes nothing.
 use mathlib.Core.List.{map}
-use mathlib.Core.Path.{◌∙◌}
 use Prim.Native.Nat.{ℕ, ◌-◌}
-use native.Mathlib.Omega.{arith}
-use lib.ListN.{length, get_or, length-map}
-use Rattle.lists.specs.Range.{range, length_range}
-use Rattle.lists.specs.Writes.{Blocks, blocks_start, blocks_room, blocks_turn, blocks_done}
-use Rattle.scatter.specs.AddingFacts.{columns_places}
+use lib.ListN.{length, get_or}
+use Rattle.lists.specs.Range.{range}
+use Rattle.lists.specs.Writes.{Blocks}
 use Rattle.scatter.proofs.write_columns.Given as goal
 
 abbrev pub invariant-loop-j : goal.invariant-loop-j

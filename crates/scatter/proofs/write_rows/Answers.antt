@@ -1,11 +1,8 @@
 -- See Invariants.antt. Assumes nothing.
 use mathlib.Core.Path.{refl}
-use Prim.Native.Nat.{◌-◌}
 use native.Mathlib.Omega.{arith}
-use lib.ListN.{length}
-use Rattle.lists.specs.Writes.{Blocks, blocks_start, blocks_room, blocks_turn, blocks_done}
+use Rattle.lists.specs.Writes.{blocks_start, blocks_room, blocks_turn, blocks_done}
 use Rattle.scatter.specs.AddingFacts.{rows_places}
-use borrow.Author.Rules.{rules}
 use Rattle.scatter.proofs.write_rows.Goals as goal
 
 pub loop-j-init : goal.loop-j-init

@@ -1,10 +1,7 @@
 -- `scatter::write_rows` meets its contract. The invariant of its loop: the columns below j are written. Assumes nothing.
-use mathlib.Core.Path.{refl}
 use Prim.Native.Nat.{◌-◌}
-use native.Mathlib.Omega.{arith}
 use lib.ListN.{length}
-use Rattle.lists.specs.Writes.{Blocks, blocks_start, blocks_room, blocks_turn, blocks_done}
-use Rattle.scatter.specs.AddingFacts.{rows_places}
+use Rattle.lists.specs.Writes.{Blocks}
 use Rattle.scatter.proofs.write_rows.Given as goal
 
 abbrev pub invariant-loop-j : goal.invariant-loop-j

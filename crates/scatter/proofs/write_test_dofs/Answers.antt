@@ -1,9 +1,6 @@
 -- See Invariants.antt. Assumes nothing.
-use Prim.Native.Nat.{ℕ, ◌-◌}
 use native.Mathlib.Omega.{arith}
-use lib.ListN.{length, get_or}
-use Rattle.lists.specs.Writes.{Stores, stores_start, stores_turn, stores_copied}
-use borrow.Author.Rules.{rules}
+use Rattle.lists.specs.Writes.{stores_start, stores_turn, stores_copied}
 use Rattle.scatter.proofs.write_test_dofs.Goals as goal
 
 pub loop-i-init : goal.loop-i-init

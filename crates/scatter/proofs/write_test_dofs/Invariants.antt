@@ -1,8 +1,7 @@
 -- `scatter::write_test_dofs` meets its contract. The invariant of its loop: the DOFs below i are written. Assumes nothing.
 use Prim.Native.Nat.{ℕ, ◌-◌}
-use native.Mathlib.Omega.{arith}
 use lib.ListN.{length, get_or}
-use Rattle.lists.specs.Writes.{Stores, stores_start, stores_turn, stores_copied}
+use Rattle.lists.specs.Writes.{Stores}
 use Rattle.scatter.proofs.write_test_dofs.Given as goal
 
 abbrev pub invariant-loop-i : goal.invariant-loop-i

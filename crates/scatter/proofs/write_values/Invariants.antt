@@ -1,12 +1,8 @@
 -- `scatter::write_values` meets its contract. The invariant of its loop: the entries of the trial basis below j are written. Assumes nothing.
 use mathlib.Core.List.{map}
-use mathlib.Core.Path.{◌∙◌}
 use Prim.Native.Nat.{ℕ, ◌-◌}
-use native.Mathlib.Omega.{arith}
-use lib.ListN.{length-map}
-use Rattle.lists.specs.Range.{range, length_range}
-use Rattle.lists.specs.Writes.{Blocks, blocks_start, blocks_room, blocks_turn, blocks_done}
-use Rattle.scatter.specs.Adding.{local_values}
+use Rattle.lists.specs.Range.{range}
+use Rattle.lists.specs.Writes.{Blocks}
 use Rattle.scatter.specs.Entries.{entry_at}
 use Rattle.scatter.proofs.write_values.Given as goal
 

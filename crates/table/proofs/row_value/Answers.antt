@@ -1,7 +1,6 @@
 -- `table::row_value` meets its contract: the place is within the table, by `reach_place`. Assumes nothing.
 use native.Mathlib.Omega.{arith}
 use Rattle.table.specs.Rows.{reach_place}
-use borrow.Author.Rules.{rules}
 use Rattle.table.proofs.row_value.Goals as goal
 
 pub overflow_mul-result : goal.overflow_mul-result

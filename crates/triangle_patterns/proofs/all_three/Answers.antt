@@ -1,6 +1,5 @@
 -- `triangle_patterns::all_three` meets its contract: each return has the test that led there. Assumes nothing.
 use Rattle.lists.specs.Bool.{◌and◌}
-use borrow.Author.Rules.{rules}
 use Rattle.triangle_patterns.proofs.all_three.Goals as goal
 
 pub returns-then-a-b : goal.returns-then-a-b

@@ -1,6 +1,5 @@
 -- `triangle_patterns::pattern_at` meets its contract: each arm has the bits of its case. Assumes nothing.
 use Rattle.triangle_patterns.specs.Written.{arm, last_arm}
-use borrow.Author.Rules.{rules}
 use Rattle.triangle_patterns.proofs.pattern_at.Goals as goal
 
 pub returns-in-15 : goal.returns-in-15

@@ -2,7 +2,6 @@
 use native.Mathlib.Nat.{add-zero}
 use borrow.Author.Tests.{eq-eqb, ne_eqb}
 use Rattle.cell_pairs.specs.MatchesFacts.{first_of}
-use borrow.Author.Rules.{rules}
 use Rattle.triangle_patterns.proofs.place_of.Goals as goal
 
 pub returns-then-rows-at : goal.returns-then-rows-at

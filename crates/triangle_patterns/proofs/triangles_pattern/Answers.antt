@@ -1,6 +1,5 @@
 -- `triangle_patterns::triangles_pattern` meets its contract: the pattern of the three places. Assumes nothing.
 use Rattle.triangle_patterns.specs.TrianglesFacts.{found_places, found_pattern}
-use borrow.Author.Rules.{rules}
 use Rattle.triangle_patterns.proofs.triangles_pattern.Goals as goal
 
 pub pattern_at-requires : goal.pattern_at-requires

@@ -3,7 +3,6 @@ use mathlib.Core.Path.{sym, ◌∙◌}
 use native.Mathlib.Nat.{add-zero}
 use Rattle.lists.specs.Bool.{◌and◌}
 use Rattle.triangle_patterns.specs.TrianglesFacts.{first_missing, second_missing, third_missing, none_missing}
-use borrow.Author.Rules.{rules}
 use Rattle.triangle_patterns.proofs.triangles_right.Goals as goal
 
 pub returns-then-not-has_entity : goal.returns-then-not-has_entity

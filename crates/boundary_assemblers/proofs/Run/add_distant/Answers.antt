@@ -11,7 +11,6 @@ use Rattle.boundary_assemblers.specs.RunFacts.{standing}
 use Rattle.boundary_assemblers.specs.AddFacts.{distant_behind, check_fails, check_passes, by_state, by_rest, by_none, sum_is}
 use Rattle.runs.specs.Runs.{plan_of, matrix_right, test_dofs_of, trial_dofs_of}
 use Rattle.scatter.specs.Adding.{add_local}
-use borrow.Author.Rules.{rules}
 use Rattle.boundary_assemblers.proofs.Run.add_distant.Goals as goal
 
 pub returns-then-not-item-self : goal.returns-then-not-item-self

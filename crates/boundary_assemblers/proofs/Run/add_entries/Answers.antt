@@ -14,7 +14,6 @@ use Rattle.boundary_assemblers.specs.AddFacts.{check_fails, check_passes, by_sta
 use Rattle.boundary_assemblers.specs.EntryFacts.{sized_same, entries_behind, fit, values_are}
 use Rattle.runs.specs.Runs.{plan_of, entry_lists, written, entries_right}
 use Rattle.lent_numbers.specs.Entries.{touching_entry}
-use borrow.Author.Rules.{rules}
 use Rattle.boundary_assemblers.proofs.Run.add_entries.Goals as goal
 
 pub kinds_put-requires : goal.kinds_put-requires

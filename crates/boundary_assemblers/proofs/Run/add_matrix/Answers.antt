@@ -1,6 +1,5 @@
 -- `boundary_assemblers::Run::add_matrix` meets its contract: the DOFs of the record's cells lie within the DOF lists, and the matrix has room. Assumes nothing.
 use Rattle.boundary_assemblers.specs.AddFacts.{add_fits, by_dim}
-use borrow.Author.Rules.{rules}
 use Rattle.boundary_assemblers.proofs.Run.add_matrix.Goals as goal
 
 pub cell_dofs-rows-requires : goal.cell_dofs-rows-requires

@@ -1,7 +1,6 @@
 -- `boundary_assemblers::Run::advanced` meets its contract. Assumes nothing.
 use mathlib.Core.Path.{refl}
 use Rattle.runs.specs.Runs.{advance}
-use borrow.Author.Rules.{rules}
 use Rattle.boundary_assemblers.proofs.Run.advanced.Goals as goal
 
 pub returns : goal.returns

@@ -1,7 +1,6 @@
 -- `boundary_assemblers::Run::begin` meets its contract. Assumes nothing.
 use mathlib.Core.Path.{refl}
 use Rattle.runs.specs.Runs.{begin}
-use borrow.Author.Rules.{rules}
 use Rattle.boundary_assemblers.proofs.Run.begin.Goals as goal
 
 pub returns : goal.returns

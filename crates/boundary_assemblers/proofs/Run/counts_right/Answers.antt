@@ -4,7 +4,6 @@ use native.Mathlib.Nat.{mul-le-mul}
 use native.Mathlib.Omega.{arith}
 use Rattle.lists.specs.Bool.{◌and◌, ◌or◌, every}
 use Rattle.runs.specs.Runs.{counts_right}
-use borrow.Author.Rules.{rules}
 use Rattle.boundary_assemblers.proofs.Run.counts_right.Goals as goal
 
 pub overflow_mul-pairs : goal.overflow_mul-pairs

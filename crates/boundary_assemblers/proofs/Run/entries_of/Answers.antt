@@ -2,7 +2,6 @@
 use native.Mathlib.Omega.{arith}
 use mathlib.Core.Path.{refl}
 use Rattle.boundary_assemblers.specs.EntryFacts.{one_few, block_few}
-use borrow.Author.Rules.{rules}
 use Rattle.boundary_assemblers.proofs.Run.entries_of.Goals as goal
 
 pub overflow_mul-result : goal.overflow_mul-result

@@ -3,7 +3,6 @@ use mathlib.Core.Path.{refl, sym}
 use Rattle.lists.specs.Bool.{◌and◌, every, and_no_left, turned, passed}
 use Rattle.runs.specs.Runs.{entries_right}
 use Rattle.boundary_assemblers.specs.RunFacts.{dims, second_answers}
-use borrow.Author.Rules.{rules}
 use Rattle.boundary_assemblers.proofs.Run.entries_right.Goals as goal
 
 pub returns-then-not-dims_right : goal.returns-then-not-dims_right

@@ -4,7 +4,6 @@ use mathlib.Core.Path.{refl}
 use mathlib.Core.Logic.{inl, inr}
 use Rattle.boundary_assemblers.specs.EntryFacts.{entries_by, entries_fit_holds}
 use Rattle.boundary_assemblers.specs.Forms.{run_of}
-use borrow.Author.Rules.{rules}
 use Rattle.boundary_assemblers.proofs.Run.entries_to.Goals as goal
 
 pub overflow_sub-q : goal.overflow_sub-q

@@ -5,7 +5,6 @@ use Rattle.lists.specs.Bool.{◌and◌}
 use Rattle.runs.specs.Runs.{pairs}
 use Rattle.boundary_assemblers.specs.EntryFacts.{put_early, put_in, block_one, block_two, block_three, block_four, last_left}
 use Rattle.boundary_assemblers.specs.Forms.{run_of}
-use borrow.Author.Rules.{rules}
 use Rattle.boundary_assemblers.proofs.Run.kinds_put.Goals as goal
 
 pub returns-then-self-n : goal.returns-then-self-n

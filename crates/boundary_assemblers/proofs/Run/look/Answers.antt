@@ -2,7 +2,6 @@
 use mathlib.Core.Path.{sym, ◌∙◌}
 use Rattle.runs.specs.Runs.{look_refusal, look}
 use Rattle.boundary_assemblers.specs.RunFacts.{state_refused, state_passed, reply_refused}
-use borrow.Author.Rules.{rules}
 use Rattle.boundary_assemblers.proofs.Run.look.Goals as goal
 
 pub returns-in-Refused : goal.returns-in-Refused

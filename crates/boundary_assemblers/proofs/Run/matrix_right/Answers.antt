@@ -3,7 +3,6 @@ use Prim.Native.Nat.{◌≤◌}
 use native.Mathlib.Nat.{mul-le-mul}
 use native.Mathlib.Omega.{arith}
 use Rattle.runs.specs.Runs.{matrix_right}
-use borrow.Author.Rules.{rules}
 use Rattle.boundary_assemblers.proofs.Run.matrix_right.Goals as goal
 
 pub overflow_mul-result : goal.overflow_mul-result

@@ -5,7 +5,6 @@ use Rattle.lists.specs.Bool.{◌and◌, every, and_no_left, turned, passed}
 use Rattle.runs.specs.Runs.{kinds_fit, plan_right}
 use Rattle.boundary_assemblers.specs.RunFacts.{ranges, matched, few_kinds, places_are, second_answers}
 use Rattle.boundary_assemblers.specs.Forms.{run_of}
-use borrow.Author.Rules.{rules}
 use Rattle.boundary_assemblers.proofs.Run.plan_right.Goals as goal
 
 pub kinds_match-requires : goal.kinds_match-requires

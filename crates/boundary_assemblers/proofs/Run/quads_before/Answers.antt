@@ -7,7 +7,6 @@ use lib.Seq.{length-take-le}
 use Rattle.grid.specs.Mesh.{cells_of}
 use Rattle.boundary_assemblers.specs.KindPlaces.{kinds_part}
 use Rattle.boundary_assemblers.specs.RunFacts.{none_before, all_before}
-use borrow.Author.Rules.{rules}
 use Rattle.boundary_assemblers.proofs.Run.quads_before.Goals as goal
 
 pub returns-then-n-eq0 : goal.returns-then-n-eq0

@@ -1,7 +1,6 @@
 -- `boundary_assemblers::Run::ranges_right` meets its contract: the tests are what the callees ensure. Assumes nothing.
 use Rattle.lists.specs.Bool.{◌and◌, every}
 use Rattle.runs.specs.Runs.{ranges_right}
-use borrow.Author.Rules.{rules}
 use Rattle.boundary_assemblers.proofs.Run.ranges_right.Goals as goal
 
 pub returns : goal.returns

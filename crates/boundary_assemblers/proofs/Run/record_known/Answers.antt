@@ -2,7 +2,6 @@
 use mathlib.Core.Path.{refl}
 use Rattle.lists.specs.Bool.{◌and◌, ◌or◌, every}
 use Rattle.runs.specs.Runs.{record_known}
-use borrow.Author.Rules.{rules}
 use Rattle.boundary_assemblers.proofs.Run.record_known.Goals as goal
 
 pub returns : goal.returns

@@ -9,7 +9,6 @@ use lib.ListN.{get_or}
 use Rattle.runs.specs.Runs.{plan_of}
 use Rattle.boundary_assemblers.specs.RunFacts.{ranges, kinds_matched, known, quads_few, cell_is, both_inside, record_fits, pair_is, run_fails, plan_fails, none_left, record_unknown, dofs_fail, all_pass}
 use Rattle.boundary_assemblers.specs.Forms.{run_of}
-use borrow.Author.Rules.{rules}
 use Rattle.boundary_assemblers.proofs.Run.state_checked.Goals as goal
 
 pub returns-then-not-ranges_right : goal.returns-then-not-ranges_right

@@ -2,7 +2,6 @@
 use Rattle.boundary_assemblers.specs.AddFacts.{dofs_long}
 use Rattle.boundary_assemblers.specs.EntryFacts.{written_is}
 use Rattle.boundary_assemblers.specs.Forms.{run_of}
-use borrow.Author.Rules.{rules}
 use Rattle.boundary_assemblers.proofs.Run.write_entries.Goals as goal
 
 pub cell_dofs-row_dofs-requires : goal.cell_dofs-row_dofs-requires

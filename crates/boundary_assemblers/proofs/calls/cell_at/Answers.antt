@@ -1,6 +1,5 @@
 -- `boundary_assemblers::calls::cell_at` meets its contract. Assumes nothing.
 use mathlib.Core.Path.{refl}
-use borrow.Author.Rules.{rules}
 use Rattle.boundary_assemblers.proofs.calls.cell_at.Goals as goal
 
 pub returns : goal.returns

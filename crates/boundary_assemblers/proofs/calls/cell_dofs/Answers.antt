@@ -1,6 +1,5 @@
 -- `boundary_assemblers::calls::cell_dofs` meets its contract: the part has `dim` elements. Assumes nothing.
 use native.Mathlib.Nat.{add-sub_cancel_left}
-use borrow.Author.Rules.{rules}
 use Rattle.boundary_assemblers.proofs.calls.cell_dofs.Goals as goal
 
 pub returns : goal.returns

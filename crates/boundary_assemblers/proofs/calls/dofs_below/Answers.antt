@@ -3,7 +3,6 @@ use mathlib.Core.Path.{ap, ◌∙◌}
 use mathlib.Core.List.{List}
 use Prim.Native.Nat.{ℕ}
 use Rattle.numbers.specs.Ranges.{all_below}
-use borrow.Author.Rules.{rules}
 use Rattle.boundary_assemblers.proofs.calls.dofs_below.Goals as goal
 
 pub cell_dofs-requires : goal.cell_dofs-requires

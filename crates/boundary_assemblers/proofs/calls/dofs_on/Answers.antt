@@ -4,7 +4,6 @@ use native.Mathlib.Nat.{mul-le-mul}
 use native.Mathlib.Omega.{arith}
 use mathlib.Core.Path.{refl}
 use Rattle.function.specs.Elements.{dim_of, element_of}
-use borrow.Author.Rules.{rules}
 use Rattle.boundary_assemblers.proofs.calls.dofs_on.Goals as goal
 
 product : (n m : ℕ) → n ≤ 2048 → m ≤ 38654705664 → n * m ≤ 79164837199872

@@ -1,6 +1,5 @@
 -- `boundary_assemblers::entries::kind_cells` meets its contract. Assumes nothing.
 use borrow.Author.Tests.{eq-eqb, ne_eqb}
-use borrow.Author.Rules.{rules}
 use Rattle.boundary_assemblers.proofs.entries.kind_cells.Goals as goal
 
 pub returns-then-kind-eq3 : goal.returns-then-kind-eq3

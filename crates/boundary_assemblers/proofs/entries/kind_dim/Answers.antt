@@ -1,7 +1,6 @@
 -- `boundary_assemblers::entries::kind_dim` meets its contract. Assumes nothing.
 use mathlib.Core.Path.{sym, ◌∙◌}
 use borrow.Author.Tests.{eq-eqb, ne_eqb}
-use borrow.Author.Rules.{rules}
 use Rattle.boundary_assemblers.proofs.entries.kind_dim.Goals as goal
 
 pub returns-then-count-eq0 : goal.returns-then-count-eq0

@@ -6,7 +6,6 @@ use Rattle.integrands.specs.Columns.{first_reads}
 use Rattle.lent_numbers.specs.Sizes.{small_kernel}
 use Rattle.point_sums.specs.Facts.{added_as}
 use Rattle.cell_pair_assemblers.specs.Facts.{curls_summand}
-use borrow.Author.Rules.{rules}
 use Rattle.cell_pair_assemblers.proofs.distant.distant_curls.Goals as goal
 
 pub geometry_at-trial-requires : goal.geometry_at-trial-requires

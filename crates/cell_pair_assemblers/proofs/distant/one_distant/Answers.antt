@@ -1,10 +1,9 @@
 -- See Invariants.antt. Assumes nothing.
 use mathlib.Core.Path.{◌≡◌, refl}
-use Prim.Native.Nat.{ℕ, ◌-◌, ◌≤◌}
 use native.Mathlib.Omega.{arith}
-use Rattle.integrands.specs.Columns.{Held, held_as}
+use Rattle.integrands.specs.Columns.{held_as}
 use Rattle.lent_numbers.specs.Lent.{distant}
-use Rattle.cell_pair_assemblers.specs.Facts.{distant_rows, distant_geometry, distant_end, distant_begin}
+use Rattle.cell_pair_assemblers.specs.Facts.{distant_geometry, distant_end, distant_begin}
 use borrow.Author.Rules.{rules}
 use Rattle.cell_pair_assemblers.proofs.distant.one_distant.Goals as goal
 

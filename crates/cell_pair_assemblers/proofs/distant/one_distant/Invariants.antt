@@ -1,10 +1,8 @@
 -- `cell_pair_assemblers::distant::one_distant` meets its contract: the invariant is that the entries hold the sums of the test points passed. Assumes nothing.
-use mathlib.Core.Path.{◌≡◌, refl}
 use Prim.Native.Nat.{ℕ, ◌-◌, ◌≤◌}
-use native.Mathlib.Omega.{arith}
-use Rattle.integrands.specs.Columns.{Held, held_as}
+use Rattle.integrands.specs.Columns.{Held}
 use Rattle.lent_numbers.specs.Lent.{distant}
-use Rattle.cell_pair_assemblers.specs.Facts.{distant_rows, distant_geometry, distant_end, distant_begin}
+use Rattle.cell_pair_assemblers.specs.Facts.{distant_rows}
 use Rattle.cell_pair_assemblers.proofs.distant.one_distant.Given as goal
 
 abbrev pub invariant-loop-t : goal.invariant-loop-t

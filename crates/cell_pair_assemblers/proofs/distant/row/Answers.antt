@@ -1,10 +1,9 @@
 -- See Invariants.antt. Assumes nothing.
 use mathlib.Core.Path.{◌≡◌}
-use Prim.Native.Nat.{ℕ, ◌-◌, ◌≤◌}
 use native.Mathlib.Omega.{arith}
-use Rattle.integrands.specs.Columns.{Held, held_as}
+use Rattle.integrands.specs.Columns.{held_as}
 use Rattle.lent_numbers.specs.Lent.{distant}
-use Rattle.cell_pair_assemblers.specs.Facts.{distant_sum, reaches, distant_geometry, distant_row_start, distant_added, distant_row_end}
+use Rattle.cell_pair_assemblers.specs.Facts.{reaches, distant_geometry, distant_row_start, distant_added, distant_row_end}
 use borrow.Author.Rules.{rules}
 use Rattle.cell_pair_assemblers.proofs.distant.row.Goals as goal
 use Rattle.cell_pair_assemblers.proofs.distant.row.Goals.{then-rows-eq3, else-rows-eq3}

@@ -1,7 +1,6 @@
 -- `cell_pair_assemblers::distant::row_at` meets its contract: each branch is a row, with the dims by their values. Assumes nothing.
 use Rattle.point_sums.specs.Facts.{both_are}
 use Rattle.cell_pair_assemblers.specs.Facts.{held_from, held_at, fits_at}
-use borrow.Author.Rules.{rules}
 use Rattle.cell_pair_assemblers.proofs.distant.row_at.Goals as goal
 
 pub row-requires : goal.row-requires

@@ -1,11 +1,8 @@
 -- `cell_pair_assemblers::distant::row_rest` meets its contract: the invariant is that the entries hold the sums of the trial points passed. Assumes nothing.
-use mathlib.Core.Logic.{⊎_elim}
-use mathlib.Core.Path.{◌≡◌}
 use Prim.Native.Nat.{ℕ, ◌-◌, ◌≤◌}
-use native.Mathlib.Omega.{arith}
-use Rattle.integrands.specs.Columns.{Held, held_as}
+use Rattle.integrands.specs.Columns.{Held}
 use Rattle.lent_numbers.specs.Lent.{distant}
-use Rattle.cell_pair_assemblers.specs.Facts.{distant_sum, reaches, distant_geometry, distant_row_start, distant_added, distant_row_end}
+use Rattle.cell_pair_assemblers.specs.Facts.{distant_sum}
 use Rattle.cell_pair_assemblers.proofs.distant.row_rest.Given as goal
 
 abbrev pub invariant-loop-r : goal.invariant-loop-r

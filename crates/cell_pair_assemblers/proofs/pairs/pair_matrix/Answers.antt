@@ -1,10 +1,8 @@
 -- See Invariants.antt. Assumes nothing.
 use mathlib.Core.Path.{◌≡◌}
-use Prim.Native.Nat.{ℕ, ◌-◌, ◌≤◌}
 use native.Mathlib.Omega.{arith}
-use Rattle.integrands.specs.Columns.{Held}
 use Rattle.lent_numbers.specs.Lent.{distant}
-use Rattle.cell_pair_assemblers.specs.Pairs.{pair_rows, pair_begin, pair_few, pair_counts, pair_entries_lem}
+use Rattle.cell_pair_assemblers.specs.Pairs.{pair_begin, pair_few, pair_entries_lem}
 use borrow.Author.Rules.{rules}
 use Rattle.cell_pair_assemblers.proofs.pairs.pair_matrix.Goals as goal
 

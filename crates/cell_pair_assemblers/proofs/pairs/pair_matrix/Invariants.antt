@@ -1,10 +1,8 @@
 -- `cell_pair_assemblers::pairs::pair_matrix` meets its contract: the invariant is that the entries hold the sums of the test points passed. Assumes nothing.
-use mathlib.Core.Path.{◌≡◌}
 use Prim.Native.Nat.{ℕ, ◌-◌, ◌≤◌}
-use native.Mathlib.Omega.{arith}
 use Rattle.integrands.specs.Columns.{Held}
 use Rattle.lent_numbers.specs.Lent.{distant}
-use Rattle.cell_pair_assemblers.specs.Pairs.{pair_rows, pair_begin, pair_few, pair_counts, pair_entries_lem}
+use Rattle.cell_pair_assemblers.specs.Pairs.{pair_rows}
 use Rattle.cell_pair_assemblers.proofs.pairs.pair_matrix.Given as goal
 
 abbrev pub invariant-loop-t : goal.invariant-loop-t

@@ -1,7 +1,6 @@
 -- `cell_pair_assemblers::pairs::pair_place_holds` meets its contract. Assumes nothing.
 use mathlib.Core.Path.{refl}
 use native.Mathlib.Omega.{arith}
-use borrow.Author.Rules.{rules}
 use Rattle.cell_pair_assemblers.proofs.pairs.pair_place.Goals as goal
 
 pub overflow_mul-result : goal.overflow_mul-result

@@ -4,7 +4,6 @@ use Rattle.integrands.specs.Columns.{held_added}
 use Rattle.lent_numbers.specs.Lent.{distant}
 use Rattle.lent_numbers.specs.Sizes.{small_kernel}
 use Rattle.cell_pair_assemblers.specs.Pairs.{pair_right_lem, pair_reads, pair_apart, pair_more}
-use borrow.Author.Rules.{rules}
 use Rattle.cell_pair_assemblers.proofs.pairs.pair_point.Goals as goal
 
 pub geometry_at-trial-requires : goal.geometry_at-trial-requires

@@ -1,10 +1,9 @@
 -- See Invariants.antt. Assumes nothing.
 use mathlib.Core.Path.{◌≡◌}
-use Prim.Native.Nat.{ℕ, ◌-◌, ◌≤◌}
 use native.Mathlib.Omega.{arith}
-use Rattle.integrands.specs.Columns.{Held, held_as}
+use Rattle.integrands.specs.Columns.{held_as}
 use Rattle.lent_numbers.specs.Lent.{distant}
-use Rattle.cell_pair_assemblers.specs.Pairs.{pair_count, pair_sum, pair_geometry, pair_start, pair_counts, pair_end}
+use Rattle.cell_pair_assemblers.specs.Pairs.{pair_count, pair_geometry, pair_start, pair_end}
 use borrow.Author.Rules.{rules}
 use Rattle.cell_pair_assemblers.proofs.pairs.pair_row.Goals as goal
 

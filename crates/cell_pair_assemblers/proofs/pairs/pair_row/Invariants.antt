@@ -1,10 +1,8 @@
 -- `cell_pair_assemblers::pairs::pair_row` meets its contract: the invariant is that the entries hold the sums of the trial points passed. Assumes nothing.
-use mathlib.Core.Path.{◌≡◌}
 use Prim.Native.Nat.{ℕ, ◌-◌, ◌≤◌}
-use native.Mathlib.Omega.{arith}
-use Rattle.integrands.specs.Columns.{Held, held_as}
+use Rattle.integrands.specs.Columns.{Held}
 use Rattle.lent_numbers.specs.Lent.{distant}
-use Rattle.cell_pair_assemblers.specs.Pairs.{pair_count, pair_sum, pair_geometry, pair_start, pair_counts, pair_end}
+use Rattle.cell_pair_assemblers.specs.Pairs.{pair_sum}
 use Rattle.cell_pair_assemblers.proofs.pairs.pair_row.Given as goal
 
 abbrev pub invariant-loop-k : goal.invariant-loop-k

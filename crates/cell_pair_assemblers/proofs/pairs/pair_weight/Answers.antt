@@ -1,7 +1,6 @@
 -- `cell_pair_assemblers::pairs::pair_weight` meets its contract. Assumes nothing.
 use mathlib.Core.Path.{refl}
 use native.Mathlib.Omega.{arith}
-use borrow.Author.Rules.{rules}
 use Rattle.cell_pair_assemblers.proofs.pairs.pair_weight.Goals as goal
 
 pub offset_bounds-trial_weights-r : goal.offset_bounds-trial_weights-r

@@ -1,10 +1,9 @@
 -- See Invariants.antt. Assumes nothing.
 use mathlib.Core.Path.{◌≡◌}
-use Prim.Native.Nat.{ℕ, ◌-◌, ◌≤◌}
 use native.Mathlib.Omega.{arith}
-use Rattle.integrands.specs.Columns.{Held, held_as}
+use Rattle.integrands.specs.Columns.{held_as}
 use Rattle.lent_numbers.specs.Lent.{touching}
-use Rattle.cell_pair_assemblers.specs.Facts.{touching_sum, touching_end, touching_begin}
+use Rattle.cell_pair_assemblers.specs.Facts.{touching_end, touching_begin}
 use borrow.Author.Rules.{rules}
 use Rattle.cell_pair_assemblers.proofs.touching.one_touching.Goals as goal
 use Rattle.cell_pair_assemblers.proofs.touching.one_touching.Goals.{then-rows-eq3, else-rows-eq3}

@@ -1,11 +1,8 @@
 -- `cell_pair_assemblers::touching::one_touching` meets its contract: the invariant is that the entries hold the sums of the points passed. Assumes nothing.
-use mathlib.Core.Logic.{⊎_elim}
-use mathlib.Core.Path.{◌≡◌}
 use Prim.Native.Nat.{ℕ, ◌-◌, ◌≤◌}
-use native.Mathlib.Omega.{arith}
-use Rattle.integrands.specs.Columns.{Held, held_as}
+use Rattle.integrands.specs.Columns.{Held}
 use Rattle.lent_numbers.specs.Lent.{touching}
-use Rattle.cell_pair_assemblers.specs.Facts.{touching_sum, touching_end, touching_begin}
+use Rattle.cell_pair_assemblers.specs.Facts.{touching_sum}
 use Rattle.cell_pair_assemblers.proofs.touching.one_touching.Given as goal
 
 abbrev pub invariant-loop-q : goal.invariant-loop-q

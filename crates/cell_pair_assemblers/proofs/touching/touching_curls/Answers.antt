@@ -4,7 +4,6 @@ use Rattle.integrands.specs.Columns.{held_added, first_reads}
 use Rattle.lent_numbers.specs.Lent.{touching}
 use Rattle.lent_numbers.specs.Sizes.{small_kernel}
 use Rattle.cell_pair_assemblers.specs.Facts.{touching_test_table, touching_trial_table, touching_kernel, touching_geometry, curls_value, touching_once}
-use borrow.Author.Rules.{rules}
 use Rattle.cell_pair_assemblers.proofs.touching.touching_curls.Goals as goal
 
 pub geometry_at-test-requires : goal.geometry_at-test-requires

@@ -5,7 +5,6 @@ use Rattle.lent_numbers.specs.Lent.{touching}
 use Rattle.lent_numbers.specs.Sizes.{small_kernel}
 use Rattle.point_sums.specs.Facts.{both_are, added_at, table_at}
 use Rattle.cell_pair_assemblers.specs.Facts.{touching_test_table, touching_trial_table, touching_kernel, touching_geometry, outer_value, touching_once}
-use borrow.Author.Rules.{rules}
 use Rattle.cell_pair_assemblers.proofs.touching.touching_outer.Goals as goal
 
 pub geometry_at-test-requires : goal.geometry_at-test-requires

@@ -4,7 +4,6 @@ use mathlib.Core.List.{List}
 use lib.ListN.{length}
 use Rattle.cell_pairs.specs.Matches.{Match}
 use Rattle.cell_pairs.specs.Table.{pattern, number_of}
-use borrow.Author.Rules.{rules}
 use Rattle.cell_patterns.proofs.shared.cells_pattern.Goals as goal
 
 pub number_of-requires : goal.number_of-requires

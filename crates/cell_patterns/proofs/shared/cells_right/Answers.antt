@@ -1,6 +1,5 @@
 -- `cell_patterns::shared::cells_right` meets its contract: the list of shared vertices is empty, or the cells share one. Assumes nothing.
 use Rattle.cell_patterns.specs.SharedFacts.{none_shared, some_shared}
-use borrow.Author.Rules.{rules}
 use Rattle.cell_patterns.proofs.shared.cells_right.Goals as goal
 
 pub returns-then-s-eq0 : goal.returns-then-s-eq0

@@ -1,6 +1,5 @@
 -- `cell_patterns::shared::code_of` meets its contract: each return has so many shared vertices. Assumes nothing.
 use Rattle.cell_patterns.specs.FormulaFacts.{code_none, code_one, code_two, code_three, code_four, four_pairs}
-use borrow.Author.Rules.{rules}
 use Rattle.cell_patterns.proofs.shared.code_of.Goals as goal
 
 pub returns-then-s-eq0 : goal.returns-then-s-eq0

@@ -1,6 +1,5 @@
 -- `cell_patterns::shared::digits` meets its contract: the places are below 4. Assumes nothing.
 use native.Mathlib.Omega.{arith}
-use borrow.Author.Rules.{rules}
 use Rattle.cell_patterns.proofs.shared.digits.Goals as goal
 
 pub overflow_mul-result : goal.overflow_mul-result

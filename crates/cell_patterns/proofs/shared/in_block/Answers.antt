@@ -2,7 +2,6 @@
 use native.Mathlib.Omega.{arith}
 use native.Mathlib.Nat.{le_of_lt}
 use Rattle.cell_patterns.specs.FormulaFacts.{sixteen, in_none, in_one, in_turned, in_straight, in_more}
-use borrow.Author.Rules.{rules}
 use Rattle.cell_patterns.proofs.shared.in_block.Goals as goal
 
 pub returns-then-s-eq0 : goal.returns-then-s-eq0

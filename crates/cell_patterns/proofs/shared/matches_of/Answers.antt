@@ -1,9 +1,7 @@
 -- See Invariants.antt. Assumes nothing.
-use Prim.Native.Nat.{◌-◌, ◌≤◌}
+use Prim.Native.Nat.{◌≤◌}
 use native.Mathlib.Omega.{arith}
-use lib.ListN.{length}
-use Rattle.cell_patterns.specs.SharedFacts.{Gathered, gathered_start, gathered_turn, gathered_done, place_small}
-use borrow.Author.Rules.{rules}
+use Rattle.cell_patterns.specs.SharedFacts.{gathered_start, gathered_turn, gathered_done, place_small}
 use Rattle.cell_patterns.proofs.shared.matches_of.Goals as goal
 
 pub loop-q-init : goal.loop-q-init

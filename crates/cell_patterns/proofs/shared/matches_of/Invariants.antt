@@ -1,8 +1,7 @@
 -- `cell_patterns::shared::matches_of` meets its contract. The invariant of its loop: it has the shared vertices of the trial places below q. Assumes nothing.
-use Prim.Native.Nat.{◌-◌, ◌≤◌}
-use native.Mathlib.Omega.{arith}
+use Prim.Native.Nat.{◌-◌}
 use lib.ListN.{length}
-use Rattle.cell_patterns.specs.SharedFacts.{Gathered, gathered_start, gathered_turn, gathered_done, place_small}
+use Rattle.cell_patterns.specs.SharedFacts.{Gathered}
 use Rattle.cell_patterns.proofs.shared.matches_of.Given as goal
 
 abbrev pub invariant-loop-q : goal.invariant-loop-q

@@ -2,7 +2,6 @@
 use native.Mathlib.Omega.{arith}
 use Rattle.cell_patterns.specs.TableRows.{listed_decimal}
 use Rattle.cell_patterns.specs.FormulaFacts.{formula_at, number_here, number_other, number_past}
-use borrow.Author.Rules.{rules}
 use Rattle.cell_patterns.proofs.shared.number_of.Goals as goal
 
 pub returns-then-table_row-code_of : goal.returns-then-table_row-code_of

@@ -1,10 +1,5 @@
 -- See Invariants.antt. Assumes nothing.
-use mathlib.Core.Path.{◌≡◌}
-use mathlib.Core.Bool.{false}
-use Prim.Native.Nat.{ℕ, ◌≤◌, ◌<◌, ◌-◌}
 use native.Mathlib.Omega.{arith}
-use lib.ListN.{length, get_or}
-use lib.Dec.{eqb}
 use Rattle.cell_patterns.specs.SharedFacts.{place_found, place_none, place_turn}
 use borrow.Author.Rules.{rules}
 use Rattle.cell_patterns.proofs.shared.place_in.Goals as goal

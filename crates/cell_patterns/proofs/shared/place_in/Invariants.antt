@@ -2,10 +2,8 @@
 use mathlib.Core.Path.{◌≡◌}
 use mathlib.Core.Bool.{false}
 use Prim.Native.Nat.{ℕ, ◌≤◌, ◌<◌, ◌-◌}
-use native.Mathlib.Omega.{arith}
 use lib.ListN.{length, get_or}
 use lib.Dec.{eqb}
-use Rattle.cell_patterns.specs.SharedFacts.{place_found, place_none, place_turn}
 use Rattle.cell_patterns.proofs.shared.place_in.Given as goal
 
 abbrev pub invariant-loop-p : goal.invariant-loop-p

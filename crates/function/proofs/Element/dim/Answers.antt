@@ -3,7 +3,6 @@ use Prim.Native.Nat.{ℕ, ◌*◌, ◌^◌, ◌≤◌, ◌<◌}
 use native.Mathlib.Nat.{mul-le-mul_right}
 use native.Mathlib.Omega.{arith}
 use Rattle.function.specs.Elements.{dim_of}
-use borrow.Author.Rules.{rules}
 use Rattle.function.proofs.Element.dim.Goals as goal
 
 product : (n x : ℕ) → n < 256 → x < 2 ^ 32 → n * x < 2 ^ 40

@@ -2,7 +2,6 @@
 use mathlib.Core.Path.{ap, ◌∙◌}
 use Rattle.function.specs.declared.Element.{Element}
 use Rattle.function.specs.Elements.{dim_of}
-use borrow.Author.Rules.{rules}
 use Rattle.function.proofs.Elements.dim.Goals as goal
 
 pub returns : goal.returns

@@ -1,7 +1,6 @@
 -- `function::Elements::of` meets its contract. Assumes nothing.
 use borrow.Author.Tests.{eq-eqb, ne_eqb}
 use Rattle.function.specs.Elements.{element_of}
-use borrow.Author.Rules.{rules}
 use Rattle.function.proofs.Elements.of.Goals as goal
 
 pub returns-then-kind-eq3 : goal.returns-then-kind-eq3

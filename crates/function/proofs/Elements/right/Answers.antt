@@ -1,7 +1,6 @@
 -- `function::Elements::right` meets its contract: what is left of check 4 where a kind is not present, and where both are. Assumes nothing.
 use Rattle.lists.specs.Bool.{◌and◌, ◌or◌}
 use Rattle.function.specs.ElementsFacts.{right_triangles, right_quads, right_both}
-use borrow.Author.Rules.{rules}
 use Rattle.function.proofs.Elements.right.Goals as goal
 
 pub returns-then-quads-eq0 : goal.returns-then-quads-eq0

@@ -2,7 +2,6 @@
 use mathlib.Core.Path.{ap, ◌∙◌}
 use Rattle.function.specs.Colours.{colour_count}
 use Rattle.function.specs.ColoursFacts.{colours_low}
-use borrow.Author.Rules.{rules}
 use Rattle.function.proofs.colouring.cell_colouring.Goals as goal
 
 pub count_colours-requires : goal.count_colours-requires

@@ -1,9 +1,7 @@
 -- See Invariants.antt. Assumes nothing.
-use Prim.Native.Nat.{◌-◌}
 use native.Mathlib.Omega.{arith}
 use mathlib.Core.Path.{sym}
-use lib.Dec.{eqb}
-use Rattle.function.specs.ColoursFacts.{Filled, filled_none, filled_more, filled_all, smallest_alone}
+use Rattle.function.specs.ColoursFacts.{filled_none, filled_more, filled_all, smallest_alone}
 use borrow.Author.Rules.{rules}
 use Rattle.function.proofs.colouring.colour_alone.Goals as goal
 

@@ -1,10 +1,8 @@
 -- `function::colouring::colour_alone` meets its contract. The invariant: the first i colours are stored; each is 0 by `smallest_alone`.
 -- Assumes nothing.
 use Prim.Native.Nat.{◌-◌}
-use native.Mathlib.Omega.{arith}
-use mathlib.Core.Path.{sym}
 use lib.Dec.{eqb}
-use Rattle.function.specs.ColoursFacts.{Filled, filled_none, filled_more, filled_all, smallest_alone}
+use Rattle.function.specs.ColoursFacts.{Filled}
 use Rattle.function.proofs.colouring.colour_alone.Given as goal
 
 abbrev pub invariant-loop-i : goal.invariant-loop-i

@@ -3,7 +3,6 @@ use native.Mathlib.Omega.{arith}
 use mathlib.Core.Path.{sym, ap, ◌∙◌}
 use Rattle.function.specs.Elements.{element_of}
 use Rattle.function.specs.ColoursFacts.{by_vertices, by_edges, by_none, listed_vertices, listed_edges}
-use borrow.Author.Rules.{rules}
 use Rattle.function.proofs.colouring.colour_by_dimension.Goals as goal
 
 pub leading_kind-requires : goal.leading_kind-requires

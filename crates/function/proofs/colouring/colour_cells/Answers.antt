@@ -3,7 +3,6 @@ use Prim.Native.Nat.{ℕ, ◌+◌}
 use native.Mathlib.Omega.{arith}
 use mathlib.Core.Path.{sym, ap, ◌∙◌}
 use lib.Seq.{length-take-le}
-use borrow.Author.Rules.{rules}
 use Rattle.function.proofs.colouring.colour_cells.Goals as goal
 
 pub slice_bounds-colour_sorted-end : goal.slice_bounds-colour_sorted-end

@@ -1,11 +1,8 @@
 -- See Invariants.antt. Assumes nothing.
-use Prim.Native.Nat.{◌-◌, ◌≤◌}
+use Prim.Native.Nat.{◌≤◌}
 use native.Mathlib.Omega.{arith}
 use mathlib.Core.Path.{refl}
-use lib.ListN.{length}
-use Rattle.grid.specs.Rows.{share}
-use Rattle.function.specs.ColoursFacts.{Filled, filled_none, filled_more, filled_all, front_le, smallest_le, Marks, marks_none}
-use borrow.Author.Rules.{rules}
+use Rattle.function.specs.ColoursFacts.{filled_none, filled_more, filled_all, front_le, smallest_le, marks_none}
 use Rattle.function.proofs.colouring.colour_grouped.Goals as goal
 
 pub loop-i-init : goal.loop-i-init

@@ -1,10 +1,8 @@
 -- `function::colouring::colour_grouped` meets its contract. The invariant: the first i colours are stored; a turn is `filled_more`. Assumes nothing.
-use Prim.Native.Nat.{◌-◌, ◌≤◌}
-use native.Mathlib.Omega.{arith}
-use mathlib.Core.Path.{refl}
+use Prim.Native.Nat.{◌-◌}
 use lib.ListN.{length}
 use Rattle.grid.specs.Rows.{share}
-use Rattle.function.specs.ColoursFacts.{Filled, filled_none, filled_more, filled_all, front_le, smallest_le, Marks, marks_none}
+use Rattle.function.specs.ColoursFacts.{Filled, Marks}
 use Rattle.function.proofs.colouring.colour_grouped.Given as goal
 
 abbrev pub invariant-loop-i : goal.invariant-loop-i

@@ -2,7 +2,6 @@
 use native.Mathlib.Omega.{arith}
 use mathlib.Core.Path.{sym, ◌∙◌}
 use Rattle.function.specs.ColoursFacts.{listed_below, listed_length, listed_padded, listed_colours}
-use borrow.Author.Rules.{rules}
 use Rattle.function.proofs.colouring.colour_sorted.Goals as goal
 
 pub write_rows-requires : goal.write_rows-requires

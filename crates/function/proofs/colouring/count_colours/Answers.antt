@@ -1,8 +1,6 @@
 -- See Invariants.antt. Assumes nothing.
-use Prim.Native.Nat.{◌-◌}
 use native.Mathlib.Omega.{arith}
-use lib.ListN.{length}
-use Rattle.function.specs.ColoursFacts.{Counted, count_none, count_more, count_all}
+use Rattle.function.specs.ColoursFacts.{count_none, count_more, count_all}
 use borrow.Author.Rules.{rules}
 use Rattle.function.proofs.colouring.count_colours.Goals as goal
 

@@ -1,8 +1,7 @@
 -- `function::colouring::count_colours` meets its contract. The invariant: the number of colours of the places passed. Assumes nothing.
 use Prim.Native.Nat.{◌-◌}
-use native.Mathlib.Omega.{arith}
 use lib.ListN.{length}
-use Rattle.function.specs.ColoursFacts.{Counted, count_none, count_more, count_all}
+use Rattle.function.specs.ColoursFacts.{Counted}
 use Rattle.function.proofs.colouring.count_colours.Given as goal
 
 abbrev pub invariant-loop-i : goal.invariant-loop-i

@@ -1,11 +1,8 @@
 -- See Invariants.antt. Assumes nothing.
-use Prim.Native.Nat.{ℕ, ◌+◌, ◌-◌, ◌≤◌, ◌<◌}
 use native.Mathlib.Omega.{arith}
-use mathlib.Core.Bool.{false, not}
-use mathlib.Core.Path.{◌≡◌, sym, ap}
-use lib.ListN.{get_or}
+use mathlib.Core.Bool.{not}
+use mathlib.Core.Path.{sym, ap}
 use native.Mathlib.Nat.{lt_irrefl}
-use lib.Dec.{eqb}
 use borrow.Author.Count.{below_none, below_more}
 use borrow.Author.Tests.{eq-eqb, ne_eqb}
 use Rattle.lists.specs.Bounded.{least_is}

@@ -1,14 +1,9 @@
 -- `function::colouring::first_unmarked` meets its contract. The invariant: each colour passed is marked; the answer by `least_is`. Assumes nothing.
 use Prim.Native.Nat.{ℕ, ◌+◌, ◌-◌, ◌≤◌, ◌<◌}
-use native.Mathlib.Omega.{arith}
 use mathlib.Core.Bool.{false, not}
-use mathlib.Core.Path.{◌≡◌, sym, ap}
+use mathlib.Core.Path.{◌≡◌}
 use lib.ListN.{get_or}
-use native.Mathlib.Nat.{lt_irrefl}
 use lib.Dec.{eqb}
-use borrow.Author.Count.{below_none, below_more}
-use borrow.Author.Tests.{eq-eqb, ne_eqb}
-use Rattle.lists.specs.Bounded.{least_is}
 use Rattle.function.proofs.colouring.first_unmarked.Given as goal
 
 abbrev pub invariant-loop-k : goal.invariant-loop-k

@@ -1,6 +1,5 @@
 -- `function::colouring::leading_kind` meets its contract: each way by the law of its case. Assumes nothing.
 use Rattle.function.specs.ColoursFacts.{first_three, first_four, first_none}
-use borrow.Author.Rules.{rules}
 use Rattle.function.proofs.colouring.leading_kind.Goals as goal
 
 pub returns-then-count_kind-gt0 : goal.returns-then-count_kind-gt0

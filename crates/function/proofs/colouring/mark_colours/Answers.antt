@@ -1,11 +1,10 @@
 -- See Invariants.antt. Assumes nothing.
-use Prim.Native.Nat.{◌-◌, ◌≤◌, ◌<◌}
+use Prim.Native.Nat.{◌<◌}
 use native.Mathlib.Omega.{arith}
-use mathlib.Core.Logic.{⊎_elim}
 use mathlib.Core.Path.{◌≡◌}
 use lib.ListN.{length}
 use Rattle.grid.specs.Mesh.{most_cells}
-use Rattle.function.specs.ColoursFacts.{Marked, colour_to, mark_start, mark_yes, mark_no}
+use Rattle.function.specs.ColoursFacts.{mark_start, mark_yes, mark_no}
 use borrow.Author.Rules.{rules}
 use Rattle.function.proofs.colouring.mark_colours.Goals as goal
 use Rattle.function.proofs.colouring.mark_colours.Goals.{After-wide-at, then-j-i, else-j-i}

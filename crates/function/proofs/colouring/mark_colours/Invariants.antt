@@ -1,11 +1,7 @@
 -- `function::colouring::mark_colours` meets its contract. The invariant: the colours of the first k cells are marked. Assumes nothing.
-use Prim.Native.Nat.{◌-◌, ◌≤◌, ◌<◌}
-use native.Mathlib.Omega.{arith}
-use mathlib.Core.Logic.{⊎_elim}
-use mathlib.Core.Path.{◌≡◌}
+use Prim.Native.Nat.{◌-◌, ◌≤◌}
 use lib.ListN.{length}
-use Rattle.grid.specs.Mesh.{most_cells}
-use Rattle.function.specs.ColoursFacts.{Marked, colour_to, mark_start, mark_yes, mark_no}
+use Rattle.function.specs.ColoursFacts.{Marked, colour_to}
 use Rattle.function.proofs.colouring.mark_colours.Given as goal
 
 abbrev pub invariant-loop-k : goal.invariant-loop-k

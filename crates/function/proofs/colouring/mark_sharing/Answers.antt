@@ -1,5 +1,5 @@
 -- See Invariants.antt. Assumes nothing.
-use Prim.Native.Nat.{ℕ, ◌+◌, ◌-◌, ◌*◌, ◌<◌, ◌≤◌}
+use Prim.Native.Nat.{ℕ, ◌+◌, ◌*◌, ◌<◌}
 use native.Mathlib.Omega.{arith}
 use mathlib.Core.Path.{◌≡◌, refl, ap, ◌∙◌}
 use mathlib.Core.List.{List}
@@ -7,7 +7,7 @@ use lib.ListN.{length, get_or}
 use Rattle.grid.specs.Rows.{cell_in}
 use Rattle.grid.specs.RowsFacts.{cell_most, cell_entity}
 use Rattle.cells_by_key.specs.GroupsFacts.{entity_bounds, entity_part}
-use Rattle.function.specs.ColoursFacts.{Marked, sharing_to, sharing_start, sharing_more, sharing_done}
+use Rattle.function.specs.ColoursFacts.{sharing_start, sharing_more, sharing_done}
 use borrow.Author.Rules.{rules}
 use Rattle.function.proofs.colouring.mark_sharing.Goals as goal
 

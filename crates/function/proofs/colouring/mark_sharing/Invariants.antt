@@ -1,13 +1,9 @@
 -- `function::colouring::mark_sharing` meets its contract. The invariant: the cells of the first p numbers of cell i are marked. Assumes nothing.
-use Prim.Native.Nat.{ℕ, ◌+◌, ◌-◌, ◌*◌, ◌<◌, ◌≤◌}
-use native.Mathlib.Omega.{arith}
-use mathlib.Core.Path.{◌≡◌, refl, ap, ◌∙◌}
-use mathlib.Core.List.{List}
-use lib.ListN.{length, get_or}
+use Prim.Native.Nat.{◌-◌, ◌≤◌}
+use mathlib.Core.Path.{◌≡◌}
+use lib.ListN.{length}
 use Rattle.grid.specs.Rows.{cell_in}
-use Rattle.grid.specs.RowsFacts.{cell_most, cell_entity}
-use Rattle.cells_by_key.specs.GroupsFacts.{entity_bounds, entity_part}
-use Rattle.function.specs.ColoursFacts.{Marked, sharing_to, sharing_start, sharing_more, sharing_done}
+use Rattle.function.specs.ColoursFacts.{Marked, sharing_to}
 use Rattle.function.proofs.colouring.mark_sharing.Given as goal
 
 abbrev pub invariant-loop-p : goal.invariant-loop-p

@@ -1,7 +1,6 @@
 -- `function::colouring::next_colour` meets its contract, by `marks_colour`. Assumes nothing.
 use native.Mathlib.Omega.{arith}
 use Rattle.function.specs.ColoursFacts.{marks_colour}
-use borrow.Author.Rules.{rules}
 use Rattle.function.proofs.colouring.next_colour.Goals as goal
 
 pub returns : goal.returns

@@ -1,12 +1,9 @@
 -- See Invariants.antt. Assumes nothing.
-use Prim.Native.Nat.{◌-◌}
 use native.Mathlib.Omega.{arith}
-use mathlib.Core.Bool.{true}
-use mathlib.Core.Path.{◌≡◌, sym, ap, ◌∙◌}
-use lib.ListN.{length}
-use Rattle.lists.specs.Bounded.{all, all_none, all_more, all_fails, all_done}
-use Rattle.grid.specs.Cells.{part, own, distinct}
-use Rattle.grid.specs.CellsFacts.{Begins, begins_first, begins_next, begins_inside, begins_few, begins_part, shaped_few}
+use mathlib.Core.Path.{sym, ap, ◌∙◌}
+use Rattle.lists.specs.Bounded.{all_none, all_more, all_fails, all_done}
+use Rattle.grid.specs.Cells.{distinct}
+use Rattle.grid.specs.CellsFacts.{begins_first, begins_next, begins_inside, begins_few, begins_part, shaped_few}
 use borrow.Author.Rules.{rules}
 use Rattle.grid.proofs.checks.all_distinct.Goals as goal
 

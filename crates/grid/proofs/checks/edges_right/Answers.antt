@@ -1,7 +1,6 @@
 -- `grid::checks::edges_right` meets its contract: the first call has tested the edge list's length and bound, which the second asks for. Assumes nothing.
 use mathlib.Core.Path.{sym, ◌∙◌}
 use Rattle.grid.specs.EdgeRule.{numbered, edges_right_by, edges_right_not}
-use borrow.Author.Rules.{rules}
 use Rattle.grid.proofs.checks.edges_right.Goals as goal
 
 pub edges_sized-requires : goal.edges_sized-requires

@@ -1,6 +1,5 @@
 -- `grid::checks::edges_sized` meets its contract: `&` of the three tests is `_and_`. Assumes nothing.
 use Rattle.lists.specs.Bool.{◌and◌, every}
-use borrow.Author.Rules.{rules}
 use Rattle.grid.proofs.checks.edges_sized.Goals as goal
 
 pub returns : goal.returns

@@ -1,7 +1,6 @@
 -- `grid::checks::kinds_right` meets its contract: `&` of the two tests is `_and_`. Assumes nothing.
 use Rattle.lists.specs.Bool.{◌and◌}
 use Rattle.grid.specs.Mesh.{kinds_right}
-use borrow.Author.Rules.{rules}
 use Rattle.grid.proofs.checks.kinds_right.Goals as goal
 
 pub returns : goal.returns

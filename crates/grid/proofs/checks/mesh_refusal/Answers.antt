@@ -5,7 +5,6 @@ use Rattle.lists.specs.Refusals.{answers, accepted, refused, ◌then◌}
 use Rattle.numbers.specs.Ranges.{within_high}
 use Rattle.grid.specs.Mesh.{Mesh, most_cells, mesh_with, cells_right, kinds_right, corners}
 use Rattle.grid.specs.Facts.{shaped, kinds_long_lem, places_by, vertices_by, vertices_below}
-use borrow.Author.Rules.{rules}
 use Rattle.grid.proofs.checks.mesh_refusal.Goals as goal
 
 pub places_right-requires : goal.places_right-requires

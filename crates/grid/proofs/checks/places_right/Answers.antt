@@ -1,5 +1,4 @@
 -- `grid::checks::places_right` meets its contract. Assumes nothing.
-use borrow.Author.Rules.{rules}
 use Rattle.grid.proofs.checks.places_right.Goals as goal
 
 pub returns : goal.returns

@@ -1,6 +1,5 @@
 -- `grid::checks::vertices_right` meets its contract: `&` of what the three calls answer is `_and_`. Assumes nothing.
 use Rattle.lists.specs.Bool.{◌and◌, every}
-use borrow.Author.Rules.{rules}
 use Rattle.grid.proofs.checks.vertices_right.Goals as goal
 
 pub returns : goal.returns

@@ -3,7 +3,6 @@ use mathlib.Core.Path.{sym, ap, subst, ◌∙◌}
 use mathlib.Core.List.{List}
 use Prim.Native.Nat.{ℕ}
 use Rattle.grid.specs.EdgeRule.{Numbered, keys_agree}
-use borrow.Author.Rules.{rules}
 use Rattle.grid.proofs.edge_rule.agree_by.Goals as goal
 
 pub keys_agree-requires : goal.keys_agree-requires

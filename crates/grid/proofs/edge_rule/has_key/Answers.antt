@@ -1,10 +1,8 @@
 -- See Invariants.antt. Assumes nothing.
-use Prim.Native.Nat.{◌-◌, ◌≤◌}
 use native.Mathlib.Omega.{arith}
 use mathlib.Core.Path.{◌≡◌, sym}
 use Rattle.lists.specs.Bool.{◌or◌}
 use Rattle.lists.specs.Bounded.{some_start, some_more}
-use Rattle.grid.specs.EdgeRule.{has_key}
 use borrow.Author.Rules.{rules}
 use Rattle.grid.proofs.edge_rule.has_key.Goals as goal
 

@@ -1,9 +1,6 @@
 -- `grid::edge_rule::has_key` meets its contract. The invariant: what is found among the edges passed (`some m`). Assumes nothing.
 use Prim.Native.Nat.{◌-◌, ◌≤◌}
-use native.Mathlib.Omega.{arith}
-use mathlib.Core.Path.{◌≡◌, sym}
-use Rattle.lists.specs.Bool.{◌or◌}
-use Rattle.lists.specs.Bounded.{some_start, some_more}
+use mathlib.Core.Path.{◌≡◌}
 use Rattle.grid.specs.EdgeRule.{has_key}
 use Rattle.grid.proofs.edge_rule.has_key.Given as goal
 

@@ -5,7 +5,6 @@ use mathlib.Core.Path.{◌≡◌, sym}
 use lib.ListN.{length, take, replicate, length-replicate}
 use lib.Seq.{length-take-le}
 use Rattle.grid.specs.CellsFacts.{shaped_few}
-use borrow.Author.Rules.{rules}
 use Rattle.grid.proofs.edge_rule.keeps_edge_rule.Goals as goal
 
 scratch : (n : ℕ) → n ≤ 8192 → length {A = ℕ} (take n (replicate 8192 0)) ≡ n

@@ -1,10 +1,8 @@
 -- See Invariants.antt. Assumes nothing.
-use Prim.Native.Nat.{◌-◌, ◌≤◌}
 use native.Mathlib.Omega.{arith}
 use mathlib.Core.Path.{refl, sym, ◌∙◌}
-use lib.ListN.{length}
 use Rattle.numbers.specs.Ranges.{below_at}
-use Rattle.grid.specs.EdgeRule.{Known, Unmarked, unmarked_first, unmarked_later, unmarked_set, may_short, edge_under, known_none, known_more, known_fails, known_all}
+use Rattle.grid.specs.EdgeRule.{unmarked_first, unmarked_later, unmarked_set, may_short, edge_under, known_none, known_more, known_fails, known_all}
 use borrow.Author.Rules.{rules}
 use Rattle.grid.proofs.edge_rule.keys_agree.Goals as goal
 

@@ -1,10 +1,7 @@
 -- `grid::edge_rule::keys_agree` meets its contract. The invariant: the keys of the edges after the places passed (`Known`). Assumes nothing.
 use Prim.Native.Nat.{◌-◌, ◌≤◌}
-use native.Mathlib.Omega.{arith}
-use mathlib.Core.Path.{refl, sym, ◌∙◌}
 use lib.ListN.{length}
-use Rattle.numbers.specs.Ranges.{below_at}
-use Rattle.grid.specs.EdgeRule.{Known, Unmarked, unmarked_first, unmarked_later, unmarked_set, may_short, edge_under, known_none, known_more, known_fails, known_all}
+use Rattle.grid.specs.EdgeRule.{Known, Unmarked}
 use Rattle.grid.proofs.edge_rule.keys_agree.Given as goal
 
 abbrev pub invariant-loop-k : goal.invariant-loop-k

@@ -2,7 +2,6 @@
 use borrow.Author.Tests.{eq-eqb, ne_eqb}
 use Rattle.lists.specs.Bool.{◌and◌, ◌or◌}
 use Rattle.grid.specs.EdgeRule.{may_have}
-use borrow.Author.Rules.{rules}
 use Rattle.grid.proofs.edge_rule.may_have.Goals as goal
 
 pub returns-then-known-key : goal.returns-then-known-key

@@ -1,10 +1,8 @@
 -- See Invariants.antt. Assumes nothing.
-use Prim.Native.Nat.{◌-◌}
 use native.Mathlib.Omega.{arith}
 use mathlib.Core.Path.{refl}
-use lib.ListN.{length}
 use Rattle.grid.specs.CellsFacts.{begins_inside, begins_few, begins_length, shaped_few}
-use Rattle.grid.specs.EdgeRule.{Keyed, keyed_none, keyed_more, keyed_all, begins_below}
+use Rattle.grid.specs.EdgeRule.{keyed_none, keyed_more, keyed_all, begins_below}
 use borrow.Author.Rules.{rules}
 use Rattle.grid.proofs.edge_rule.write_keys.Goals as goal
 

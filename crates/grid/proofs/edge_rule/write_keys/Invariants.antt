@@ -1,10 +1,7 @@
 -- `grid::edge_rule::write_keys` meets its contract. The invariant: the keys of the cells passed are written (`Keyed`). Assumes nothing.
 use Prim.Native.Nat.{◌-◌}
-use native.Mathlib.Omega.{arith}
-use mathlib.Core.Path.{refl}
 use lib.ListN.{length}
-use Rattle.grid.specs.CellsFacts.{begins_inside, begins_few, begins_length, shaped_few}
-use Rattle.grid.specs.EdgeRule.{Keyed, keyed_none, keyed_more, keyed_all, begins_below}
+use Rattle.grid.specs.EdgeRule.{Keyed}
 use Rattle.grid.proofs.edge_rule.write_keys.Given as goal
 
 abbrev pub invariant-loop-i : goal.invariant-loop-i

@@ -5,7 +5,6 @@ use lib.ListN.{length}
 use lib.Dec.{eqb}
 use Rattle.lists.specs.Bool.{◌and◌}
 use Rattle.grid.specs.KindsFacts.{quarters_rest}
-use borrow.Author.Rules.{rules}
 use Rattle.grid.proofs.shape.all_are.Goals as goal
 
 pub returns : goal.returns

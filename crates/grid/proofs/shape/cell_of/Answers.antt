@@ -2,7 +2,6 @@
 use mathlib.Core.Path.{sym, ◌∙◌}
 use borrow.Author.Tests.{eqb-true, eqb-false}
 use Rattle.grid.specs.RowsFacts.{cut_three, cut_four}
-use borrow.Author.Rules.{rules}
 use Rattle.grid.proofs.shape.cell_of.Goals as goal
 
 pub returns-then-is_triangle : goal.returns-then-is_triangle

@@ -1,5 +1,5 @@
 -- See Invariants.antt. Assumes nothing.
-use Prim.Native.Nat.{◌-◌, ◌≤◌}
+use Prim.Native.Nat.{◌≤◌}
 use native.Mathlib.Omega.{arith}
 use mathlib.Core.Bool.{Bool, true, false}
 use mathlib.Core.Path.{◌≡◌, refl, sym, ◌∙◌}
@@ -8,7 +8,7 @@ use lib.Dec.{eqb}
 use Rattle.grid.specs.Cells.{before}
 use mir.Val.{bool_byte}
 use Rattle.lists.specs.Total.{gate}
-use Rattle.grid.specs.KindsFacts.{kinds_to, kinds_all, kinds_next, kinds_few}
+use Rattle.grid.specs.KindsFacts.{kinds_all, kinds_next, kinds_few}
 use borrow.Author.Rules.{rules}
 use Rattle.grid.proofs.shape.count_few.Goals as goal
 

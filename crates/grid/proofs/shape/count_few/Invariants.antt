@@ -1,14 +1,8 @@
 -- `grid::shape::count_few` meets its contract. The invariant: how many of the cells passed are of the kind. Assumes nothing.
 use Prim.Native.Nat.{◌-◌, ◌≤◌}
-use native.Mathlib.Omega.{arith}
-use mathlib.Core.Bool.{Bool, true, false}
-use mathlib.Core.Path.{◌≡◌, refl, sym, ◌∙◌}
-use lib.ListN.{length, get_or}
-use lib.Dec.{eqb}
-use Rattle.grid.specs.Cells.{before}
-use mir.Val.{bool_byte}
-use Rattle.lists.specs.Total.{gate}
-use Rattle.grid.specs.KindsFacts.{kinds_to, kinds_all, kinds_next, kinds_few}
+use mathlib.Core.Path.{◌≡◌}
+use lib.ListN.{length}
+use Rattle.grid.specs.KindsFacts.{kinds_to}
 use Rattle.grid.proofs.shape.count_few.Given as goal
 
 abbrev pub invariant-loop-i : goal.invariant-loop-i

@@ -1,11 +1,11 @@
 -- See Invariants.antt. Assumes nothing.
-use Prim.Native.Nat.{◌-◌, ◌≤◌}
+use Prim.Native.Nat.{◌-◌}
 use native.Mathlib.Nat.{add-sub_cancel_left}
 use native.Mathlib.Omega.{arith}
-use mathlib.Core.Path.{◌≡◌, refl, sym}
+use mathlib.Core.Path.{refl, sym}
 use lib.ListN.{length, drop, length-take, length-drop}
 use Rattle.grid.specs.Cells.{before}
-use Rattle.grid.specs.KindsFacts.{kinds_to, few, kinds_few, kinds_cut, kinds_rest}
+use Rattle.grid.specs.KindsFacts.{few, kinds_few, kinds_cut, kinds_rest}
 use borrow.Author.Rules.{rules}
 use Rattle.grid.proofs.shape.count_kind.Goals as goal
 

@@ -1,11 +1,8 @@
 -- `grid::shape::count_kind` meets its contract. The invariant: how many of the cells passed are of the kind. Assumes nothing.
 use Prim.Native.Nat.{◌-◌, ◌≤◌}
-use native.Mathlib.Nat.{add-sub_cancel_left}
-use native.Mathlib.Omega.{arith}
-use mathlib.Core.Path.{◌≡◌, refl, sym}
-use lib.ListN.{length, drop, length-take, length-drop}
-use Rattle.grid.specs.Cells.{before}
-use Rattle.grid.specs.KindsFacts.{kinds_to, few, kinds_few, kinds_cut, kinds_rest}
+use mathlib.Core.Path.{◌≡◌}
+use lib.ListN.{length}
+use Rattle.grid.specs.KindsFacts.{kinds_to}
 use Rattle.grid.proofs.shape.count_kind.Given as goal
 
 abbrev pub invariant-loop-at : goal.invariant-loop-at

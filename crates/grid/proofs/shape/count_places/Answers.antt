@@ -1,9 +1,8 @@
 -- See Invariants.antt. Assumes nothing.
-use Prim.Native.Nat.{ℕ, ◌+◌, ◌*◌, ◌-◌, ◌≤◌}
+use Prim.Native.Nat.{ℕ, ◌+◌}
 use native.Mathlib.Omega.{arith}
 use mathlib.Core.Path.{ap}
-use lib.ListN.{length}
-use Rattle.grid.specs.CellsFacts.{Begins, begins_first, begins_next, begins_last}
+use Rattle.grid.specs.CellsFacts.{begins_first, begins_next, begins_last}
 use borrow.Author.Rules.{rules}
 use Rattle.grid.proofs.shape.count_places.Goals as goal
 

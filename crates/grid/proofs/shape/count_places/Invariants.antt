@@ -1,9 +1,7 @@
 -- `grid::shape::count_places` meets its contract. The invariant: the sum over the cells passed is where the next begins. Assumes nothing.
-use Prim.Native.Nat.{ℕ, ◌+◌, ◌*◌, ◌-◌, ◌≤◌}
-use native.Mathlib.Omega.{arith}
-use mathlib.Core.Path.{ap}
+use Prim.Native.Nat.{◌*◌, ◌-◌, ◌≤◌}
 use lib.ListN.{length}
-use Rattle.grid.specs.CellsFacts.{Begins, begins_first, begins_next, begins_last}
+use Rattle.grid.specs.CellsFacts.{Begins}
 use Rattle.grid.proofs.shape.count_places.Given as goal
 
 abbrev pub invariant-loop-i : goal.invariant-loop-i

@@ -2,7 +2,6 @@
 use native.Mathlib.Omega.{arith}
 use mathlib.Core.Path.{sym, ◌∙◌}
 use Rattle.grid.specs.EdgesFacts.{is_four, joining_three, joining_four}
-use borrow.Author.Rules.{rules}
 use Rattle.grid.proofs.shape.edge_joining.Goals as goal
 
 pub returns-then-joins : goal.returns-then-joins

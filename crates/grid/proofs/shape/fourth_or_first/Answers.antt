@@ -2,7 +2,6 @@
 use mathlib.Core.Path.{sym, ◌∙◌}
 use native.Mathlib.Nat.{add-zero}
 use Rattle.grid.specs.Rows.{fourth_or_first}
-use borrow.Author.Rules.{rules}
 use Rattle.grid.proofs.shape.fourth_or_first.Goals as goal
 
 pub returns-then-is_triangle : goal.returns-then-is_triangle

@@ -3,7 +3,6 @@ use native.Mathlib.Nat.{add-zero}
 use Rattle.lists.specs.Bool.{◌or◌}
 use Rattle.lists.specs.Bounded.{some}
 use Rattle.grid.specs.Cells.{has}
-use borrow.Author.Rules.{rules}
 use Rattle.grid.proofs.shape.has_entity.Goals as goal
 
 pub returns : goal.returns

@@ -2,7 +2,6 @@
 use mathlib.Core.Path.{refl}
 use Rattle.lists.specs.Bool.{◌and◌, ◌or◌}
 use Rattle.grid.specs.Cells.{same_two}
-use borrow.Author.Rules.{rules}
 use Rattle.grid.proofs.shape.joins.Goals as goal
 
 pub returns : goal.returns

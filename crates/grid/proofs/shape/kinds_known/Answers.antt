@@ -1,11 +1,9 @@
 -- See Invariants.antt. Assumes nothing.
-use Prim.Native.Nat.{◌-◌, ◌≤◌}
 use native.Mathlib.Omega.{arith}
 use mathlib.Core.Path.{◌≡◌, sym}
-use lib.ListN.{length, get_or}
-use lib.Dec.{eqb}
+use lib.ListN.{length}
 use Rattle.lists.specs.Bool.{◌and◌, ◌or◌}
-use Rattle.lists.specs.Bounded.{all, all_none, all_next}
+use Rattle.lists.specs.Bounded.{all_none, all_next}
 use borrow.Author.Rules.{rules}
 use Rattle.grid.proofs.shape.kinds_known.Goals as goal
 

@@ -1,11 +1,10 @@
 -- `grid::shape::kinds_known` meets its contract. The invariant: what is found of the cells passed. Assumes nothing.
 use Prim.Native.Nat.{◌-◌, ◌≤◌}
-use native.Mathlib.Omega.{arith}
-use mathlib.Core.Path.{◌≡◌, sym}
+use mathlib.Core.Path.{◌≡◌}
 use lib.ListN.{length, get_or}
 use lib.Dec.{eqb}
-use Rattle.lists.specs.Bool.{◌and◌, ◌or◌}
-use Rattle.lists.specs.Bounded.{all, all_none, all_next}
+use Rattle.lists.specs.Bool.{◌or◌}
+use Rattle.lists.specs.Bounded.{all}
 use Rattle.grid.proofs.shape.kinds_known.Given as goal
 
 abbrev pub invariant-loop-i : goal.invariant-loop-i

@@ -3,7 +3,6 @@ use native.Mathlib.Omega.{arith}
 use mathlib.Core.Path.{sym}
 use Rattle.lists.specs.Bool.{◌and◌}
 use Rattle.grid.specs.KindsFacts.{cells_few, match_short, match_both, match_three, match_four}
-use borrow.Author.Rules.{rules}
 use Rattle.grid.proofs.shape.kinds_match.Goals as goal
 
 pub returns-then-kinds-wide : goal.returns-then-kinds-wide

@@ -3,7 +3,6 @@ use native.Mathlib.Omega.{arith}
 use borrow.Author.Tests.{lt-ltb, le-ltb}
 use Rattle.numbers.specs.Ranges.{below_at}
 use Rattle.grid.specs.EdgeRule.{pair_key}
-use borrow.Author.Rules.{rules}
 use Rattle.grid.proofs.shape.pair_key.Goals as goal
 
 pub overflow_mul-result : goal.overflow_mul-result

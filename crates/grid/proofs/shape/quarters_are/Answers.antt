@@ -1,11 +1,8 @@
 -- See Invariants.antt. Assumes nothing.
-use Prim.Native.Nat.{◌-◌, ◌≤◌}
 use native.Mathlib.Omega.{arith}
 use mathlib.Core.Path.{◌≡◌, sym, ◌∙◌}
-use lib.ListN.{get_or}
-use lib.Dec.{eqb}
-use Rattle.lists.specs.Bounded.{all, all_none}
-use Rattle.grid.specs.KindsFacts.{quarters, quarters_more, quarters_all}
+use Rattle.lists.specs.Bounded.{all_none}
+use Rattle.grid.specs.KindsFacts.{quarters_more, quarters_all}
 use borrow.Author.Rules.{rules}
 use Rattle.grid.proofs.shape.quarters_are.Goals as goal
 

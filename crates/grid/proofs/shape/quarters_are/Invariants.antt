@@ -1,11 +1,10 @@
 -- `grid::shape::quarters_are` meets its contract. The invariant: what is found of the cells passed. Assumes nothing.
 use Prim.Native.Nat.{◌-◌, ◌≤◌}
-use native.Mathlib.Omega.{arith}
-use mathlib.Core.Path.{◌≡◌, sym, ◌∙◌}
+use mathlib.Core.Path.{◌≡◌}
 use lib.ListN.{get_or}
 use lib.Dec.{eqb}
-use Rattle.lists.specs.Bounded.{all, all_none}
-use Rattle.grid.specs.KindsFacts.{quarters, quarters_more, quarters_all}
+use Rattle.lists.specs.Bounded.{all}
+use Rattle.grid.specs.KindsFacts.{quarters}
 use Rattle.grid.proofs.shape.quarters_are.Given as goal
 
 abbrev pub invariant-loop-i : goal.invariant-loop-i

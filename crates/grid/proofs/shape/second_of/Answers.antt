@@ -1,7 +1,6 @@
 -- `grid::shape::second_of` meets its contract: each return has the tests that led there. Assumes nothing.
 use borrow.Author.Tests.{eq-eqb, ne_eqb}
 use Rattle.grid.specs.EdgesFacts.{second_past_three, second_past_four}
-use borrow.Author.Rules.{rules}
 use Rattle.grid.proofs.shape.second_of.Goals as goal
 
 pub returns-in-0 : goal.returns-in-0

@@ -1,9 +1,7 @@
 -- See Invariants.antt. Assumes nothing.
-use Prim.Native.Nat.{◌-◌}
 use native.Mathlib.Omega.{arith}
-use lib.ListN.{length}
 use Rattle.grid.specs.CellsFacts.{begins_inside, begins_few, shaped_few}
-use Rattle.grid.specs.RowsFacts.{Rowed, rowed_none, rowed_more, rowed_all}
+use Rattle.grid.specs.RowsFacts.{rowed_none, rowed_more, rowed_all}
 use borrow.Author.Rules.{rules}
 use Rattle.grid.proofs.shape.write_rows.Goals as goal
 

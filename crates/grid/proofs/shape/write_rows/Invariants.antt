@@ -1,9 +1,7 @@
 -- `grid::shape::write_rows` meets its contract. The invariant: the rows of the cells passed are written (`Rowed`). Assumes nothing.
 use Prim.Native.Nat.{◌-◌}
-use native.Mathlib.Omega.{arith}
 use lib.ListN.{length}
-use Rattle.grid.specs.CellsFacts.{begins_inside, begins_few, shaped_few}
-use Rattle.grid.specs.RowsFacts.{Rowed, rowed_none, rowed_more, rowed_all}
+use Rattle.grid.specs.RowsFacts.{Rowed}
 use Rattle.grid.proofs.shape.write_rows.Given as goal
 
 abbrev pub invariant-loop-i : goal.invariant-loop-i

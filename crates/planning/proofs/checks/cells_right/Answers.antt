@@ -4,7 +4,6 @@ use native.Mathlib.Omega.{arith}
 use mathlib.Core.Path.{sym, ap, ◌∙◌}
 use Rattle.grid.specs.Mesh.{most_cells}
 use Rattle.cells_by_key.specs.GroupsFacts.{scratch}
-use borrow.Author.Rules.{rules}
 use Rattle.planning.proofs.checks.cells_right.Goals as goal
 
 pub slice_bounds-rows_right-end : goal.slice_bounds-rows_right-end

@@ -1,7 +1,6 @@
 -- `planning::checks::dof_places` meets its contract: the products fit. Assumes nothing.
 use native.Mathlib.Omega.{arith}
 use Rattle.planning.specs.Facts.{products}
-use borrow.Author.Rules.{rules}
 use Rattle.planning.proofs.checks.dof_places.Goals as goal
 
 pub overflow_mul-result : goal.overflow_mul-result

@@ -2,7 +2,6 @@
 use native.Mathlib.Omega.{arith}
 use Rattle.lists.specs.Bool.{◌and◌, every}
 use Rattle.planning.specs.Facts.{pairs_few, lengths_by}
-use borrow.Author.Rules.{rules}
 use Rattle.planning.proofs.checks.lengths_right.Goals as goal
 
 pub overflow_mul-pairs : goal.overflow_mul-pairs

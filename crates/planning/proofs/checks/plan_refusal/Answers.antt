@@ -6,7 +6,6 @@ use Rattle.lists.specs.Refusals.{accepted, refused, ◌then◌}
 use Rattle.grid.specs.Facts.{fine}
 use Rattle.plans.specs.Planning.{batch_right}
 use Rattle.planning.specs.Facts.{mesh_fails, mesh_passes, fine_rowable, patterns_bare, kinds_few, both_right, lengths_by_lem, dims_by, places_by, places_few_by}
-use borrow.Author.Rules.{rules}
 use Rattle.planning.proofs.checks.plan_refusal.Goals as goal
 
 pub returns-then-v-ne0 : goal.returns-then-v-ne0

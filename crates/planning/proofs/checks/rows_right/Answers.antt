@@ -1,7 +1,6 @@
 -- `planning::checks::rows_right` meets its contract. Assumes nothing.
 use mathlib.Core.Path.{◌∙◌}
 use Rattle.planning.specs.Facts.{patterns_needs, patterns_are}
-use borrow.Author.Rules.{rules}
 use Rattle.planning.proofs.checks.rows_right.Goals as goal
 
 pub patterns_right-requires : goal.patterns_right-requires

@@ -1,6 +1,5 @@
 -- `planning::colours::colour_both` meets its contract: both calls have room in the same three lists. Assumes nothing.
 use mathlib.Core.Path.{◌∙◌}
-use borrow.Author.Rules.{rules}
 use Rattle.planning.proofs.colours.colour_both.Goals as goal
 
 pub cell_colouring-trials-requires : goal.cell_colouring-trials-requires

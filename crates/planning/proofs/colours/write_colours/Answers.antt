@@ -2,7 +2,6 @@
 use Prim.Native.Nat.{ℕ, ◌+◌, ◌*◌}
 use lib.ListN.{length-replicate}
 use Rattle.grid.specs.Mesh.{most_cells, most_edges}
-use borrow.Author.Rules.{rules}
 use Rattle.planning.proofs.colours.write_colours.Goals as goal
 
 pub colour_both-requires : goal.colour_both-requires

@@ -1,7 +1,6 @@
 -- `planning::work_list::key_of` meets its contract. Assumes nothing.
 use native.Mathlib.Omega.{arith}
 use borrow.Author.Tests.{eq-eqb, ne_eqb}
-use borrow.Author.Rules.{rules}
 use Rattle.planning.proofs.work_list.key_of.Goals as goal
 
 pub returns-then-kind-eq4 : goal.returns-then-kind-eq4

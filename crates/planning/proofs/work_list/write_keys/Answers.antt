@@ -1,9 +1,6 @@
 -- See Invariants.antt. Assumes nothing.
-use Prim.Native.Nat.{◌-◌}
 use native.Mathlib.Omega.{arith}
-use lib.ListN.{length}
-use Rattle.planning.specs.Work.{Keyed, keyed_none, keyed_turn}
-use borrow.Author.Rules.{rules}
+use Rattle.planning.specs.Work.{keyed_none, keyed_turn}
 use Rattle.planning.proofs.work_list.write_keys.Goals as goal
 
 pub loop-i-init : goal.loop-i-init

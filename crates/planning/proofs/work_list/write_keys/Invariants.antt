@@ -1,8 +1,7 @@
 -- `planning::work_list::write_keys` meets its contract. The invariant: the keys of the cells passed are written. Assumes nothing.
 use Prim.Native.Nat.{◌-◌}
-use native.Mathlib.Omega.{arith}
 use lib.ListN.{length}
-use Rattle.planning.specs.Work.{Keyed, keyed_none, keyed_turn}
+use Rattle.planning.specs.Work.{Keyed}
 use Rattle.planning.proofs.work_list.write_keys.Given as goal
 
 abbrev pub invariant-loop-i : goal.invariant-loop-i

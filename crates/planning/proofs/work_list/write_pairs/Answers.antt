@@ -2,7 +2,6 @@
 use native.Mathlib.Omega.{arith}
 use mathlib.Core.Path.{sym, ◌∙◌}
 use Rattle.planning.specs.Work.{keyable, keys_below, laid, cut, rows_long, touchable, distant_room, touching_room, ends_rise, all_written}
-use borrow.Author.Rules.{rules}
 use Rattle.planning.proofs.work_list.write_pairs.Goals as goal
 
 pub write_keys-requires : goal.write_keys-requires

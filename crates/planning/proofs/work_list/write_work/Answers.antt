@@ -5,7 +5,6 @@ use mathlib.Core.Path.{sym}
 use Rattle.grid.specs.Mesh.{most_cells}
 use Rattle.cells_by_key.specs.GroupsFacts.{scratch}
 use Rattle.planning.specs.Work.{scratch_lists, grouping_lists}
-use borrow.Author.Rules.{rules}
 use Rattle.planning.proofs.work_list.write_work.Goals as goal
 
 pub slice_bounds-write_pairs-end : goal.slice_bounds-write_pairs-end

@@ -1,14 +1,11 @@
 -- See Invariants.antt. Assumes nothing.
 use mathlib.Core.Path.{refl, ◌≡◌, ap}
-use Prim.Native.Nat.{ℕ, ◌-◌, ◌≤◌}
 use native.Mathlib.Omega.{arith}
 use lib.Ieee.{Float}
 use Rattle.numbers.specs.Floats.{◌⊕◌, ◌⊗◌}
-use Rattle.integrands.specs.Values.{geometry_at, curl_curl}
 use Rattle.integrands.specs.ValueFacts.{curls_at}
 use Rattle.integrands.specs.Parts.{factored}
-use Rattle.table.specs.Rows.{table_row}
-use Rattle.integrands.specs.Columns.{table_reach, Added, added_none, added_turn}
+use Rattle.integrands.specs.Columns.{table_reach, added_none, added_turn}
 use borrow.Author.Rules.{rules}
 use Rattle.point_sums.proofs.one_term.add_curls.Goals as goal
 

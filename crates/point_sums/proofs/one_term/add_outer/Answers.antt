@@ -1,14 +1,12 @@
 -- See Invariants.antt. Assumes nothing.
 use mathlib.Core.Path.{refl, ◌≡◌, sym, ap, ap₂}
-use Prim.Native.Nat.{ℕ, ◌-◌, ◌≤◌}
 use native.Mathlib.Nat.{zero-add}
 use native.Mathlib.Omega.{arith}
 use lib.Ieee.{Float}
 use Rattle.lists.specs.Maps.{mapped_at}
 use Rattle.numbers.specs.Floats.{◌⊕◌, ◌⊗◌}
 use Rattle.integrands.specs.Parts.{factored}
-use Rattle.table.specs.Rows.{table_row}
-use Rattle.integrands.specs.Columns.{table_reach, Added, added_none, added_turn}
+use Rattle.integrands.specs.Columns.{table_reach, added_none, added_turn}
 use borrow.Author.Rules.{rules}
 use Rattle.point_sums.proofs.one_term.add_outer.Goals as goal
 

@@ -1,6 +1,5 @@
 -- `point_sums::one_term::add_outer_at` meets its contract: each branch is the call below it, with the dims by their values. Assumes nothing.
 use Rattle.point_sums.specs.Facts.{both_are, added_at, table_at}
-use borrow.Author.Rules.{rules}
 use Rattle.point_sums.proofs.one_term.add_outer_at.Goals as goal
 
 pub add_outer-requires : goal.add_outer-requires

@@ -1,11 +1,7 @@
 -- See Invariants.antt. Assumes nothing.
 use mathlib.Core.Path.{◌≡◌, refl}
-use Prim.Native.Nat.{ℕ, ◌*◌, ◌-◌, ◌≤◌}
 use native.Mathlib.Omega.{arith}
-use lib.Ieee.{Float, nan}
-use Rattle.lists.specs.Maps.{Mapped, mapped_start, mapped_turn}
-use Rattle.numbers.specs.Floats.{◌⊕◌, ◌⊗◌, ◌!◌}
-use Rattle.integrands.specs.Parts.{factored}
+use Rattle.lists.specs.Maps.{mapped_start, mapped_turn}
 use Rattle.integrands.specs.Columns.{hundred_place}
 use borrow.Author.Rules.{rules}
 use Rattle.point_sums.proofs.one_term.outer_column.Goals as goal

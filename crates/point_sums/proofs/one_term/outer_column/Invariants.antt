@@ -1,12 +1,9 @@
 -- `point_sums::one_term::outer_column` meets its contract: the invariant is that the elements passed are mapped. Assumes nothing.
-use mathlib.Core.Path.{◌≡◌, refl}
 use Prim.Native.Nat.{ℕ, ◌*◌, ◌-◌, ◌≤◌}
-use native.Mathlib.Omega.{arith}
 use lib.Ieee.{Float, nan}
-use Rattle.lists.specs.Maps.{Mapped, mapped_start, mapped_turn}
+use Rattle.lists.specs.Maps.{Mapped}
 use Rattle.numbers.specs.Floats.{◌⊕◌, ◌⊗◌, ◌!◌}
 use Rattle.integrands.specs.Parts.{factored}
-use Rattle.integrands.specs.Columns.{hundred_place}
 use Rattle.point_sums.proofs.one_term.outer_column.Given as goal
 
 abbrev pub invariant-loop-i : goal.invariant-loop-i

@@ -6,7 +6,6 @@ use Rattle.integrands.specs.ValueFacts.{two_terms, two_outer_values, second_is_r
 use Rattle.integrands.specs.Columns.{first_reads, second_reads, first_rows, second_rows}
 use Rattle.point_sums.specs.Weights.{weighed}
 use Rattle.point_sums.specs.Facts.{added_as, both_are, added_at, table_at}
-use borrow.Author.Rules.{rules}
 use Rattle.point_sums.proofs.two_terms.add_terms.Goals as goal
 
 neither : (a b : Bool) → (a || b) ≡ false → (a ≡ false) × (b ≡ false)

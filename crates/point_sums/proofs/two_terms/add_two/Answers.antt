@@ -1,16 +1,10 @@
 -- See Invariants.antt. Assumes nothing.
 use mathlib.Core.Path.{refl, ◌≡◌, ◌∙◌, ap, ap₂}
-use Prim.Native.Nat.{ℕ, ◌-◌, ◌≤◌}
 use native.Mathlib.Omega.{arith}
-use lib.ListN.{length}
 use lib.Ieee.{Float}
 use Rattle.numbers.specs.Floats.{◌⊕◌}
-use Rattle.integrands.specs.Terms.{kind_of}
-use Rattle.integrands.specs.Values.{term_value}
-use Rattle.integrands.specs.Parts.{ValueOfKind}
 use Rattle.integrands.specs.ValueFacts.{term_from}
-use Rattle.table.specs.Rows.{table_row}
-use Rattle.integrands.specs.Columns.{table_reach, Added, added_none, added_turn}
+use Rattle.integrands.specs.Columns.{table_reach, added_none, added_turn}
 use Rattle.point_sums.specs.Weights.{weighed}
 use borrow.Author.Rules.{rules}
 use Rattle.point_sums.proofs.two_terms.add_two.Goals as goal

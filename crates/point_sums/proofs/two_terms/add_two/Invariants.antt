@@ -1,16 +1,14 @@
 -- `point_sums::two_terms::add_two` meets its contract: the invariant is that the columns passed are added. Assumes nothing.
-use mathlib.Core.Path.{refl, ◌≡◌, ◌∙◌, ap, ap₂}
+use mathlib.Core.Path.{◌≡◌}
 use Prim.Native.Nat.{ℕ, ◌-◌, ◌≤◌}
-use native.Mathlib.Omega.{arith}
 use lib.ListN.{length}
 use lib.Ieee.{Float}
 use Rattle.numbers.specs.Floats.{◌⊕◌}
 use Rattle.integrands.specs.Terms.{kind_of}
 use Rattle.integrands.specs.Values.{term_value}
 use Rattle.integrands.specs.Parts.{ValueOfKind}
-use Rattle.integrands.specs.ValueFacts.{term_from}
 use Rattle.table.specs.Rows.{table_row}
-use Rattle.integrands.specs.Columns.{table_reach, Added, added_none, added_turn}
+use Rattle.integrands.specs.Columns.{Added}
 use Rattle.point_sums.specs.Weights.{weighed}
 use Rattle.point_sums.proofs.two_terms.add_two.Given as goal
 

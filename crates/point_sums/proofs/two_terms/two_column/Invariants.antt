@@ -1,12 +1,9 @@
 -- `point_sums::two_terms::two_column` meets its contract: the invariant is that the elements passed are mapped. Assumes nothing.
-use mathlib.Core.Path.{◌≡◌, refl}
 use Prim.Native.Nat.{ℕ, ◌*◌, ◌-◌, ◌≤◌}
-use native.Mathlib.Omega.{arith}
 use lib.Ieee.{Float, nan}
-use Rattle.lists.specs.Maps.{Mapped, mapped_start, mapped_turn}
+use Rattle.lists.specs.Maps.{Mapped}
 use Rattle.numbers.specs.Floats.{◌⊕◌, ◌!◌}
 use Rattle.integrands.specs.Parts.{factored, from_sides}
-use Rattle.integrands.specs.Columns.{hundred_place}
 use Rattle.point_sums.specs.Weights.{weighed}
 use Rattle.point_sums.proofs.two_terms.two_column.Given as goal
 

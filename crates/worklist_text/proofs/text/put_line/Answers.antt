@@ -3,7 +3,6 @@ use native.Mathlib.Omega.{arith}
 use lib.ListN.{length-append}
 use Rattle.lists.specs.Writes.{wrote_more, wrote_length}
 use Rattle.worklist_text.specs.TextFacts.{line_parts, line_length}
-use borrow.Author.Rules.{rules}
 use Rattle.worklist_text.proofs.text.put_line.Goals as goal
 
 pub put_number-a-requires : goal.put_number-a-requires

@@ -1,11 +1,6 @@
 -- See Invariants.antt. Assumes nothing.
-use Prim.Native.Nat.{◌-◌, ◌/◌}
-use lib.ListN.{length}
-use Rattle.lists.specs.Writes.{numbers, Turns, turns_start, turns_room, turns_turn, turns_done, wrote_length}
-use Rattle.cell_pairs.specs.Records.{width, record_at}
-use Rattle.worklist_text.specs.Text.{line_of}
+use Rattle.lists.specs.Writes.{turns_start, turns_room, turns_turn, turns_done}
 use Rattle.worklist_text.specs.Lines.{lines_of}
-use borrow.Author.Rules.{rules}
 use Rattle.worklist_text.proofs.text.put_lines.Goals as goal
 
 pub loop-k-init : goal.loop-k-init

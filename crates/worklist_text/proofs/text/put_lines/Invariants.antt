@@ -1,10 +1,9 @@
 -- `worklist_text::text::put_lines` meets its contract. The invariant of its loop: the lines of the first k records are written. Assumes nothing.
 use Prim.Native.Nat.{◌-◌, ◌/◌}
 use lib.ListN.{length}
-use Rattle.lists.specs.Writes.{numbers, Turns, turns_start, turns_room, turns_turn, turns_done, wrote_length}
+use Rattle.lists.specs.Writes.{numbers, Turns}
 use Rattle.cell_pairs.specs.Records.{width, record_at}
 use Rattle.worklist_text.specs.Text.{line_of}
-use Rattle.worklist_text.specs.Lines.{lines_of}
 use Rattle.worklist_text.proofs.text.put_lines.Given as goal
 
 abbrev pub invariant-loop-k : goal.invariant-loop-k

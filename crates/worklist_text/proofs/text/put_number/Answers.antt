@@ -3,7 +3,6 @@ use mathlib.Core.List.{[], ◌∷◌}
 use Rattle.lists.specs.Writes.{wrote_more}
 use Rattle.worklist_text.specs.Text.{decimal}
 use Rattle.worklist_text.specs.TextFacts.{room_first, room_second}
-use borrow.Author.Rules.{rules}
 use Rattle.worklist_text.proofs.text.put_number.Goals as goal
 
 pub put_decimal-next-requires : goal.put_decimal-next-requires

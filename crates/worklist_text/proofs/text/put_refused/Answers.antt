@@ -5,7 +5,6 @@ use Rattle.worklist_text.specs.Text.{decimal}
 use native.Mathlib.Omega.{arith}
 use Rattle.worklist_text.specs.Lines.{refused_word}
 use Rattle.worklist_text.specs.TextFacts.{refused_parts, room_first, room_second}
-use borrow.Author.Rules.{rules}
 use Rattle.worklist_text.proofs.text.put_refused.Goals as goal
 
 pub put_word-next-requires : goal.put_word-next-requires

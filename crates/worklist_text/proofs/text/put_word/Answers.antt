@@ -2,7 +2,6 @@
 use native.Mathlib.Omega.{arith}
 use lib.ListN.{length-set}
 use Rattle.worklist_text.specs.TextFacts.{wrote_word}
-use borrow.Author.Rules.{rules}
 use Rattle.worklist_text.proofs.text.put_word.Goals as goal
 
 pub bounds-text-at : goal.bounds-text-at

@@ -4,7 +4,6 @@ use mathlib.Core.Path.{refl}
 use Prim.Native.Nat.{min}
 use Rattle.function.specs.Elements.{most_dim, dim}
 use Rattle.worklist_text.specs.PlannedFacts.{few_places}
-use borrow.Author.Rules.{rules}
 use Rattle.worklist_text.proofs.worklist.dof_places.Goals as goal
 
 pub overflow_mul-result : goal.overflow_mul-result

@@ -2,7 +2,6 @@
 use mathlib.Core.Path.{refl}
 use native.Mathlib.Omega.{arith}
 use Rattle.worklist_text.specs.PlannedFacts.{few_pairs}
-use borrow.Author.Rules.{rules}
 use Rattle.worklist_text.proofs.worklist.pair_count.Goals as goal
 
 pub overflow_mul-result : goal.overflow_mul-result

@@ -3,7 +3,6 @@
 use Prim.Native.Nat.{ℕ, ◌*◌}
 use mathlib.Core.Path.{ap, ◌∙◌}
 use Rattle.worklist_text.specs.PlannedFacts.{front, front_length, ready_lines, refused_line_holds, room_for, short_wrote}
-use borrow.Author.Rules.{rules}
 use Rattle.worklist_text.proofs.worklist.put_mesh.Goals as goal
 
 pub slice_bounds-plan-end : goal.slice_bounds-plan-end

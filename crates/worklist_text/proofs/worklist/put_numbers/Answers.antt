@@ -3,7 +3,6 @@ use Prim.Native.Nat.{◌*◌}
 use native.Mathlib.Omega.{arith}
 use mathlib.Core.Path.{sym}
 use lib.Seq.{length-take-le}
-use borrow.Author.Rules.{rules}
 use Rattle.worklist_text.proofs.worklist.put_numbers.Goals as goal
 
 pub slice_bounds-put_mesh-end : goal.slice_bounds-put_mesh-end

@@ -6,7 +6,6 @@ use Rattle.worklist_text.specs.TextFacts.{refused_short}
 use Rattle.worklist_text.specs.PlannedFacts.{refused_room}
 use Rattle.worklist_text.specs.PlannedText.{most_text}
 use Rattle.worklist_text.specs.WorklistFacts.{printed}
-use borrow.Author.Rules.{rules}
 use Rattle.worklist_text.proofs.worklist.refused_text.Goals as goal
 
 pub put_refused-requires : goal.put_refused-requires

@@ -4,7 +4,6 @@ use native.Mathlib.Omega.{arith}
 use lib.ListN.{length}
 use Rattle.worklist_text.specs.PlannedText.{most_text}
 use Rattle.worklist_text.specs.WorklistFacts.{printed, worklist_short}
-use borrow.Author.Rules.{rules}
 use Rattle.worklist_text.proofs.worklist.worklist_text.Goals as goal
 
 pub returns : goal.returns
