@@ -1,1 +1,2 @@
+-- The laws of the distant part, and that it is the work list's (`Facts`).
 pub mod Facts

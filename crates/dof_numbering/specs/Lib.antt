@@ -1,5 +1,5 @@
--- DOF numbers and owner records (`Numbering`), with their examples (`Examples`), and what is promised of them (`Promises`). Laws for the proofs: `Facts`,
--- `ByCell`, `Walk`, `WholeWalk`.
+-- DOF numbers and owner records (`Numbering`), with their examples (`Examples`), and the words in which they are promised and in which the code's contracts
+-- speak: `ByCell`, `Walk`, `Promises`. The promises and laws stand in `proofs/`.
 pub mod Numbering
 pub mod Examples
 pub mod ByCell

@@ -1,1 +1,2 @@
+-- What is promised of the colours (`ColoursPromises`).
 pub mod ColoursPromises

@@ -1,1 +1,2 @@
+-- What the first 7 bytes of a job decide (`HeadFacts`).
 pub mod HeadFacts

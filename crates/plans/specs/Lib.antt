@@ -1,5 +1,5 @@
 -- Planning (`Planning`), the paper's examples of it (`Examples`), what holds where it turns nothing down (`Accepted`), and what is promised of every planning
--- that is accepted (`Promises`).
+-- that is accepted (`Promises`, proved in `proofs/Promises.antt`).
 pub mod Planning
 pub mod Examples
 pub mod Accepted

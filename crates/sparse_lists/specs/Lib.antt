@@ -1,5 +1,4 @@
--- What a reader believes: `Sparse`, with examples that compute (`Examples`) and laws (`Laws`); and of a whole run `SparseProperty`, with `Pairs`. `BlockFacts` and
--- `RunFacts` are for its proof.
+-- What a reader believes: `Sparse`, with examples that compute (`Examples`); and of a whole run `SparseProperty`, with `Pairs`. Laws and proofs stand in `proofs/`.
 pub mod Sparse
 pub mod Examples
 pub mod Pairs
