@@ -18,9 +18,9 @@ use Rattle.cell_pairs.specs.Table.{Pattern, pattern, table, pattern_at}
 use Rattle.cell_pairs.proofs.TableFacts.{number_at}
 use Rattle.cell_pairs.specs.WorkList.{touching_pattern, touching_part, sharing_of}
 use Rattle.cell_pairs.proofs.WorkRecordsFacts.{Marked, pattern_each}
-use Rattle.cell_pairs.specs.Counting.{Patterned}
-use Rattle.cell_pairs.proofs.Counting.{of_kinds, count_kinds}
-use Rattle.cell_pairs.specs.Blocks.{Block, blocks_of, block_at, entries_before, OfKinds, Blocked}
+use Rattle.cell_pairs.specs.Counting.{Patterned, of_kinds}
+use Rattle.cell_pairs.proofs.Counting.{count_kinds}
+use Rattle.cell_pairs.specs.Blocks.{Block, BlockEnds, blocks_of, block_at, entries_before, OfKinds, Blocked}
 
 -- ---- records that come block after block
 
@@ -249,13 +249,6 @@ module _ (m : Mesh) (h : Patterned m) where
   )
 
 -- ---- where each block ends
-
--- how many touching records have a pattern below 28, below 64, below 100, and below 149
-pub record BlockEnds (m : Mesh) : Type 0 where
-  pub first : length (flat_map (touching_pattern m) (range 28)) ≡ sharing_of m 3 3
-  pub second : length (flat_map (touching_pattern m) (range 64)) ≡ sharing_of m 3 3 + sharing_of m 3 4
-  pub third : length (flat_map (touching_pattern m) (range 100)) ≡ sharing_of m 3 3 + sharing_of m 3 4 + sharing_of m 4 3
-  pub fourth : length (flat_map (touching_pattern m) (range pattern_count)) ≡ sharing_of m 3 3 + sharing_of m 3 4 + sharing_of m 4 3 + sharing_of m 4 4
 
 pub block_ends : (m : Mesh) → Patterned m → BlockEnds m
 block_ends m h =

@@ -26,7 +26,7 @@ use Rattle.cell_pairs.proofs.CasesFacts.{gate_none}
 use Rattle.cell_pairs.proofs.CoincidentFacts.{same_turned, none_earlier, identical_same, itself_identical, triangles_right}
 use Rattle.cell_pairs.specs.Coincident.{Single}
 
--- so check 2 and check 27 say
+-- so check 2 and the test of cells with the same vertices say
 pub single : (m : Mesh) → vertices_right m ≡ true → cells_differ m ≡ true → Single m
 unfolding vertices_right cells_differ
 single m two e =
@@ -93,7 +93,7 @@ module _ (m : Mesh) (h : Patterned m) (s : Single m) where
 
 -- ---- check 7
 
--- of triangles alone nothing is left for it, once checks 1, 2 and 27 pass
+-- of triangles alone nothing is left for it, once checks 1 and 2 and that test pass
 pub nothing_left : (m : Mesh) → m.kinds ≡ triangles m.cells → vertex_places m ≡ true → vertices_right m ≡ true → cells_differ m ≡ true → patterns_right m ≡ true
 unfolding patterns_right corners vertex_places
 nothing_left m three places two e =

@@ -23,7 +23,7 @@ use Rattle.cell_pairs.specs.SharedVertices.{vertex_below_lem}
 use Rattle.cell_pairs.specs.WorkRecords.{of_pair, Distant, Touching, Right}
 use Rattle.cell_pairs.proofs.WorkRecordsFacts.{distant_each, touching_each}
 use Rattle.cell_pairs.proofs.CountingFacts.{distant_total, touching_total, pair_total}
-use Rattle.cell_pairs.specs.Counting.{Countable, Patterned}
+use Rattle.cell_pairs.specs.Counting.{Countable, Patterned, of_kinds}
 
 -- check 7 passes: the patterns are of the table
 pub patterns_known : (m : Mesh) → patterns_right m ≡ true → (i j : ℕ) → i < m.cells → j < m.cells → touch m i j ≡ true → pair_pattern m i j < pattern_count
@@ -60,10 +60,6 @@ split m =
     ∙ total_ext _ (λ _. C) (λ i. count_split (λ j. touch m i j) (range C) ∙ length_range C) (range C)
     ∙ total_const C (range C)
     ∙ ap (λ (k : ℕ). k * C) (length_range C)
-
--- two cells of kinds n and k
-abbrev pub of_kinds : Mesh → ℕ → ℕ → ℕ → ℕ → Bool
-of_kinds m n k i j = eqb (kind m i) n and eqb (kind m j) k
 
 -- two cells are of two kinds
 of_one : (m : Mesh) (i j : ℕ) → (kind m i ≡ 3) ⊎ (kind m i ≡ 4) → (kind m j ≡ 3) ⊎ (kind m j ≡ 4)

@@ -1,10 +1,12 @@
 -- The touching part, block after block of the pattern table: how many records each block has, which are the touching pairs per two kinds, and what these numbers say
 -- of a record's place. Assumes nothing.
 use Rattle.std.specs.Prelude.{ℕ, ◌+◌, ◌-◌, ◌*◌, min, cond, ◌≡◌, List, [], ◌∷◌, ◌++◌, length, ltb}
-use Rattle.lists.specs.Range.{AllIn}
+use mathlib.Core.List.{flat_map}
+use Rattle.lists.specs.Range.{range, AllIn}
 use Rattle.grid.specs.Mesh.{Mesh, kind}
 use Rattle.cell_pairs.specs.declared.WorkRecord.{WorkRecord}
-use Rattle.cell_pairs.specs.WorkList.{sharing_of}
+use Rattle.cell_pairs.specs.Records.{pattern_count}
+use Rattle.cell_pairs.specs.WorkList.{touching_pattern, sharing_of}
 
 -- so many touching pairs of one test kind and one trial kind
 pub record Block : Type 0 where
@@ -41,3 +43,10 @@ unfoldable pub Blocked : Mesh → List Block → List WorkRecord → Type 0
 Blocked m [] rs = rs ≡ []
 Blocked m (b ∷ bs) rs =
     (xs : List WorkRecord) × (ys : List WorkRecord) × (rs ≡ xs ++ ys) × (length xs ≡ b.pairs) × AllIn (OfKinds m b.test_kind b.trial_kind) xs × Blocked m bs ys
+
+-- how many touching records have a pattern below 28, below 64, below 100, and below 149
+pub record BlockEnds (m : Mesh) : Type 0 where
+  pub first : length (flat_map (touching_pattern m) (range 28)) ≡ sharing_of m 3 3
+  pub second : length (flat_map (touching_pattern m) (range 64)) ≡ sharing_of m 3 3 + sharing_of m 3 4
+  pub third : length (flat_map (touching_pattern m) (range 100)) ≡ sharing_of m 3 3 + sharing_of m 3 4 + sharing_of m 4 3
+  pub fourth : length (flat_map (touching_pattern m) (range pattern_count)) ≡ sharing_of m 3 3 + sharing_of m 3 4 + sharing_of m 4 3 + sharing_of m 4 4

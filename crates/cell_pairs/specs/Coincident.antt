@@ -1,4 +1,4 @@
--- Coincident cells (change 4): what follows on a mesh of which no two cells have the same vertices. The pattern of a cell with itself stands at (i, i) alone, C times in
+-- Coincident cells: what follows on a mesh of which no two cells have the same vertices. The pattern of a cell with itself stands at (i, i) alone, C times in
 -- all; and of triangles alone nothing is left for check 7. Assumes nothing.
 use Prim.Native.Nat.{ℕ, ◌<◌}
 use Rattle.std.specs.Prelude.{◌≡◌, true}

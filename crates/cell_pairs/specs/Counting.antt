@@ -1,7 +1,8 @@
 -- The counting theorem: each ordered pair of cells stands on the work list exactly once; N of them are distant and come first, S are touching and
 -- follow, S + N = C·C, and the touching pairs per two kinds add up to S. Assumes nothing.
 use Prim.Native.Nat.{ℕ, ◌<◌}
-use Rattle.std.specs.Prelude.{◌≡◌, true, get_or}
+use Rattle.std.specs.Prelude.{◌≡◌, Bool, true, get_or, eqb}
+use Rattle.lists.specs.Bool.{◌and◌}
 use mathlib.Core.List.{List}
 use Rattle.std.proofs.Math.ListN.{length}
 use Rattle.grid.specs.Mesh.{Mesh, kind, corners}
@@ -28,3 +29,7 @@ pub record Countable (m : Mesh) (B : ℕ) (ts rs : List ℕ) : Type 0 where
   -- each cell has a colour for the test and for the trial element
   pub test_colours : length ts ≡ m.cells
   pub trial_colours : length rs ≡ m.cells
+
+-- two cells of kinds n and k
+abbrev pub of_kinds : Mesh → ℕ → ℕ → ℕ → ℕ → Bool
+of_kinds m n k i j = eqb (kind m i) n and eqb (kind m j) k

@@ -1,4 +1,4 @@
--- Check 27 of cells as the code reads them: in rows of four numbers a cell, where the fourth of a triangle is `none`. Assumes nothing.
+-- Cells with the same vertices, as the code reads them: in rows of four numbers a cell, where the fourth of a triangle is `none`. Assumes nothing.
 use Rattle.std.specs.Prelude.{ℕ, Bool, not, List, ltb}
 use Rattle.lists.specs.Bool.{◌and◌}
 use Rattle.lists.specs.Bounded.{all}

@@ -1,4 +1,4 @@
--- Laws of check 27 as the code makes it: a cell is held against the cells at one of its vertices. Assumes nothing.
+-- Laws of the test of cells with the same vertices, as the code makes it: a cell is held against the cells at one of its vertices. Assumes nothing.
 use Rattle.std.specs.Prelude.{ℕ, ◌+◌, ◌*◌, ◌<◌, ◌≤◌, ◌≡◌, Bool, true, false, cond, not, ◌⊎◌, List, length, get_or, eqb, ltb}
 use Rattle.std.proofs.Common.{arith, ap, subst, ◌∙◌, ⊎_elim, lt-ltb, ltb-true}
 use Rattle.std.proofs.Math.Path.{sym}
@@ -53,7 +53,7 @@ one_of_three rows i ex ey ez first second =
     (λ a. ⊎_elim (λ b. record { place = 0; first = omega arith; here = a ∙ b ∙ ex ∙ ap (λ (k : ℕ). get_or rows k 0) (omega arith) }) (λ b. record { place = 1; first = omega arith; here = a ∙ b ∙ ey }) first)
     (λ a. record { place = 2; first = omega arith; here = a ∙ ez }) second
 
--- ---- check 27 of one cell
+-- ---- the test of one cell
 
 -- a cell of a row has three vertices or four
 pub cell_few : (none : ℕ) (rows : List ℕ) (i : ℕ) → (3 ≤ length (cell_in none rows i)) × (length (cell_in none rows i) ≤ 4)
@@ -102,7 +102,7 @@ module _ {rows order ends : List ℕ} (e : ByEntity rows order ends) {i v : ℕ}
   pub vertex_cells : (C : ℕ) → length rows ≡ 4 * C → Cells rows (part order ends v)
   vertex_cells C n = subst (Cells rows) (sym vertex_part) (group_cells rows v C n)
 
-  -- check 27 of cell i, of the cells at v
+  -- the test of cell i, of the cells at v
   pub alone_at : (none C : ℕ) → length rows ≡ 4 * C → i < C → {r : Bool} → r ≡ all (length (part order ends v)) (λ k. not (earlier none rows i (get_or (part order ends v) k 0)))
       → r ≡ all i (λ j. not (same_vertices (cell_in none rows i) (cell_in none rows j)))
   alone_at none C n h f =

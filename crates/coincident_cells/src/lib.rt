@@ -1,4 +1,4 @@
-// Check 27: no cell has the same vertices as an earlier one. Two cells that have them meet at each vertex of either, so a cell is held against the cells at one of its
+// No cell has the same vertices as an earlier one. Two cells that have them meet at each vertex of either, so a cell is held against the cells at one of its
 // vertices alone. The cells are read from rows, four numbers a cell: the fourth of a triangle is `none`, the number of no vertex.
 #![tactic(auto)]
 
@@ -102,7 +102,7 @@ fn rarest(rows: &[u32], ends: &[usize], i: usize) -> usize
     rarer(ends, rarer(ends, x, y), z)
 }
 
-// Check 27. `order` holds the cells at vertex 0, then those at vertex 1 and so on, and `ends` where each vertex's end.
+// Whether no cell has the same vertices as an earlier one. `order` holds the cells at vertex 0, then those at vertex 1 and so on, and `ends` where each vertex's end.
 pub fn cells_differ(rows: &[u32], none: u32, order: &[u32], ends: &[usize]) -> bool
     requires rows_len { length rows.now ≡ 4 * (length rows.now / 4) }
     requires by_entity { ByEntity rows.now order.now ends.now }

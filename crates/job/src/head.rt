@@ -52,7 +52,7 @@ pub(crate) fn head_right(bytes: &[u8]) -> bool
     (version == 1) & (rest == 15 + 12 * cells)
 }
 
-// What the first 7 bytes say: `head_wrong`, `head_size` and `head_longer` of specs/HeadFacts have what they decide.
+// What the first 7 bytes say: `head_wrong`, `head_size` and `head_longer` of proofs/HeadFacts have what they decide.
 pub fn read_head(bytes: &[u8]) -> HeadRead
     ensures { result ≡ read_head bytes.now }
 {

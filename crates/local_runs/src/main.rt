@@ -323,8 +323,8 @@ fn main(rt: HostRuntime) -> io::Result<()> {
     if !at_end(&mut file) {
         println!(rt; "the file has more cases")?;
     }
-    file.finish()?;
     let cases = t.cases;
     let differ = t.differ;
-    println!(rt; "{cases} cases, {differ} differ")
+    println!(rt; "{cases} cases, {differ} differ")?;
+    file.finish()
 }

@@ -162,8 +162,8 @@ fn replay_file(rt: &HostRuntime, file: &mut Source<File>) -> io::Result<()> {
     if !at_end(file) {
         println!(rt; "the file has more cases")?;
     }
-    file.finish()?;
-    println!(rt; "{n} recorded answers of the Rust, {differ} differ")
+    println!(rt; "{n} recorded answers of the Rust, {differ} differ")?;
+    file.finish()
 }
 
 fn main(rt: HostRuntime) -> io::Result<()> {

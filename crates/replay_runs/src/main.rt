@@ -182,8 +182,8 @@ fn play_file(rt: &HostRuntime, file: &mut Source<File>) -> io::Result<()> {
     if !at_end(file) {
         println!(rt; "the file has more cases")?;
     }
-    file.finish()?;
-    println!(rt; "{n} lists of calls, {differ} differ")
+    println!(rt; "{n} lists of calls, {differ} differ")?;
+    file.finish()
 }
 
 fn play(rt: &HostRuntime, path: &str) -> io::Result<()> {

@@ -11,7 +11,7 @@ use Rattle.std.proofs.Math.Seq.{take-append_seam, drop-append_seam}
 use Rattle.std.specs.Float.Ieee.{Float}
 use Rattle.lists.specs.Bounded.{lt_or_le}
 use Rattle.lists.specs.Range.{range, when, filter, flat_map_below, map_below, filter_none, filter_more, map_filter, all_in_filter, all_in_range, all_in_at, flat_map_range, flat_map_none, range_split, map_range, length_range}
-use Rattle.sparse_lists.specs.Sparse.{occurs, sum, row_columns, columns_of, values_of, starts_of, kept_of, SparseLists, in_front}
+use Rattle.sparse_lists.specs.Sparse.{occurs, sum, row_columns, columns_of, values_of, starts_of, kept_of, SparseLists, in_front, part}
 
 -- ---- columns rise
 
@@ -42,10 +42,6 @@ unfolding row_columns
 columns_rise at C r i j h l = rising (λ c. occurs (at r c)) C i j h l
 
 -- ---- row r has the places from its start to the next row's
-
--- the part of a list from one place to another
-abbrev pub part : {A : Type 0} → ℕ → ℕ → List A → List A
-part from to xs = take (to - from) (drop from xs)
 
 part_of : {A : Type 0} (front xs more : List A) {from to : ℕ} → from ≡ length front → to ≡ length front + length xs → part from to (front ++ (xs ++ more)) ≡ xs
 part_of front xs more {from} {to} p q =

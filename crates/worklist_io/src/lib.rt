@@ -148,7 +148,7 @@ fn print<P: Print>(rt: &P, text: &[u8], n: usize) -> io::Result<()>
     rt.write_all(&text[..n])
 }
 
-// Answers, and prints the answer; prints nothing where a read failed.
+// Answers, and prints the answer, then hands back the error where a read failed.
 fn run<P: Print, R: Read>(
     rt: &P,
     file: &mut Source<R>,
@@ -158,8 +158,8 @@ fn run<P: Print, R: Read>(
     requires { most_bytes ≤ length bytes.old }
 {
     let answered = answer(file, bytes, text);
-    file.finish()?;
-    print(rt, text, answered.text)
+    print(rt, text, answered.text)?;
+    file.finish()
 }
 
 // The whole of the program `worklist`, on the job that an open file holds.
