@@ -12,7 +12,7 @@ use Rattle.runs.proofs.ThirdProperty.{property}
 use Rattle.runs.specs.EntriesProperty.{EntriesProperty}
 use Rattle.runs.proofs.EntriesProperty.{property as entries_of_lem}
 use Rattle.replay.specs.Encoding.{put_answers}
-use Rattle.replay.specs.Replay.{played, outcome, ended, replayed, replayed_matrix, replayed_lists, replayed_answers}
+use Rattle.replay.specs.Replay.{played, ended, replayed, replayed_matrix, replayed_lists, replayed_answers}
 
 module _ (x : Planning) (l : Lists) (n : PlanNumbers) (e : plan x l ≡ ready n) (calls : List Call) (M : List Float) (lists : EntryLists) where
   -- replay hands back the run of q, and leaves its matrix, its entry lists and its answers

@@ -1,5 +1,4 @@
 -- `replay::begin_run` meets its contract. Assumes nothing.
-use borrow.Author.Rules.{rules}
 use Rattle.replay.proofs.begin_run.Goals as goal
 
 pub returns-then-entries : goal.returns-then-entries

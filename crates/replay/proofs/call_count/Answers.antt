@@ -1,7 +1,6 @@
 -- `replay::call_count` meets its contract: the test picks the smaller. Assumes nothing.
 use borrow.Author.Tests.{le-leb, lt-leb}
 use Rattle.replay.specs.Encoding.{call_count}
-use borrow.Author.Rules.{rules}
 use Rattle.replay.proofs.call_count.Goals as goal
 
 pub returns-then-whole-room : goal.returns-then-whole-room

@@ -1,6 +1,5 @@
 -- `replay::list_in` meets its contract: it is the part between the two places. Assumes nothing.
 use Rattle.replay.specs.Encoding.{list_in}
-use borrow.Author.Rules.{rules}
 use Rattle.replay.proofs.list_in.Goals as goal
 
 pub returns : goal.returns

@@ -2,7 +2,6 @@
 use borrow.Author.Tests.{le-leb, lt-leb}
 use Rattle.lists.specs.Bool.{◌and◌}
 use Rattle.replay.specs.Encoding.{part_of}
-use borrow.Author.Rules.{rules}
 use Rattle.replay.proofs.part_of.Goals as goal
 use Rattle.replay.proofs.part_of.Goals.{then-a-e+else-e-pool, else-a-e}
 

@@ -1,6 +1,5 @@
 -- `replay::play_call` meets its contract: the kind picks the call. Assumes nothing.
 use Rattle.replay.specs.Laws.{stepped_look, stepped_distant, stepped_touching, stepped_entries}
-use borrow.Author.Rules.{rules}
 use Rattle.replay.proofs.play_call.Goals as goal
 
 pub returns-then-call-eq0 : goal.returns-then-call-eq0

@@ -1,12 +1,7 @@
 -- See Invariants.antt. Assumes nothing.
-use Prim.Native.Nat.{◌-◌, ◌≤◌}
 use native.Mathlib.Omega.{arith}
 use mathlib.Core.Path.{◌≡◌, refl, ◌∙◌}
-use lib.ListN.{length}
-use Rattle.replay.specs.Encoding.{calls_of}
-use Rattle.replay.specs.Laws.{standing, Going, calls_none, calls_more, length_calls, going_none, going_more, call_long, call_is}
-use Rattle.runs.specs.Runs.{plan_of, entry_lists}
-use Rattle.boundary_assemblers.specs.Forms.{run_of}
+use Rattle.replay.specs.Laws.{calls_none, calls_more, length_calls, going_none, going_more, call_long, call_is}
 use borrow.Author.Rules.{rules}
 use Rattle.replay.proofs.play_calls.Goals as goal
 

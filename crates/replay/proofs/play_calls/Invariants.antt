@@ -1,10 +1,9 @@
 -- `replay::play_calls` meets its contract: the invariant is the contract itself, of the calls passed; `going_more` takes it over one call. Assumes nothing.
 use Prim.Native.Nat.{◌-◌, ◌≤◌}
-use native.Mathlib.Omega.{arith}
-use mathlib.Core.Path.{◌≡◌, refl, ◌∙◌}
+use mathlib.Core.Path.{◌≡◌}
 use lib.ListN.{length}
 use Rattle.replay.specs.Encoding.{calls_of}
-use Rattle.replay.specs.Laws.{standing, Going, calls_none, calls_more, length_calls, going_none, going_more, call_long, call_is}
+use Rattle.replay.specs.Laws.{standing, Going}
 use Rattle.runs.specs.Runs.{plan_of, entry_lists}
 use Rattle.boundary_assemblers.specs.Forms.{run_of}
 use Rattle.replay.proofs.play_calls.Given as goal

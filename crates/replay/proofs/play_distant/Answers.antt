@@ -2,7 +2,6 @@
 use mathlib.Core.Path.{◌∙◌, ap}
 use Rattle.runs.specs.Runs.{add_distant, distant_matrix}
 use Rattle.replay.specs.Laws.{distant_in_lem}
-use borrow.Author.Rules.{rules}
 use Rattle.replay.proofs.play_distant.Goals as goal
 
 pub returns : goal.returns

@@ -2,7 +2,6 @@
 use mathlib.Core.Path.{◌∙◌, ap}
 use Rattle.runs.specs.Runs.{add_touching, touching_matrix}
 use Rattle.replay.specs.Laws.{touching_in_lem}
-use borrow.Author.Rules.{rules}
 use Rattle.replay.proofs.play_touching.Goals as goal
 
 pub returns : goal.returns

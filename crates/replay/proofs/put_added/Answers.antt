@@ -1,7 +1,6 @@
 -- `replay::put_added` meets its contract: in each arm the answer is that constructor, at which `answer_numbers` computes. Assumes nothing.
 use mathlib.Core.Path.{refl}
 use Rattle.replay.specs.Encoding.{answer_numbers}
-use borrow.Author.Rules.{rules}
 use Rattle.replay.proofs.put_added.Goals as goal
 
 pub returns-in-Accepted : goal.returns-in-Accepted

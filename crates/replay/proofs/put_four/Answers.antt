@@ -2,7 +2,6 @@
 use native.Mathlib.Omega.{arith}
 use lib.ListN.{length-set}
 use Rattle.replay.specs.Laws.{put_four_is}
-use borrow.Author.Rules.{rules}
 use Rattle.replay.proofs.put_four.Goals as goal
 
 pub bounds-answers-at-2 : goal.bounds-answers-at-2

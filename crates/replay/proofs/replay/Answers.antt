@@ -6,7 +6,6 @@ use Rattle.planning.specs.Arguments.{planning_with}
 use Rattle.runs.specs.Runs.{EntryLists, entry_lists}
 use Rattle.replay.specs.Encoding.{calls_of, call_count}
 use Rattle.replay.specs.Laws.{count_room, finished_refused, finished_begun}
-use borrow.Author.Rules.{rules}
 use Rattle.replay.proofs.replay.Goals as goal
 
 pub play_calls-run-requires : goal.play_calls-run-requires

@@ -1,5 +1,4 @@
 -- `seivalto::seivalto_begin` meets its contract. Assumes nothing.
-use borrow.Author.Rules.{rules}
 use Rattle.seivalto.proofs.seivalto_begin.Goals as goal
 
 pub returns : goal.returns

@@ -1,5 +1,4 @@
 -- `seivalto::seivalto_begin_entries` meets its contract. Assumes nothing.
-use borrow.Author.Rules.{rules}
 use Rattle.seivalto.proofs.seivalto_begin_entries.Goals as goal
 
 pub returns : goal.returns

@@ -1,5 +1,4 @@
 -- `seivalto::seivalto_look` meets its contract. Assumes nothing.
-use borrow.Author.Rules.{rules}
 use Rattle.seivalto.proofs.seivalto_look.Goals as goal
 
 pub returns : goal.returns

@@ -1,5 +1,4 @@
 -- `seivalto::seivalto_plan` meets its contract: the planning that it calls is that of the elements and the integrand which the C forms stand for. Assumes nothing.
-use borrow.Author.Rules.{rules}
 use Rattle.seivalto.proofs.seivalto_plan.Goals as goal
 
 pub returns : goal.returns

@@ -1,5 +1,4 @@
 -- `seivalto::adds::seivalto_add_touching` meets its contract: the call that it makes is that of the run which the C run stands for. Assumes nothing.
-use borrow.Author.Rules.{rules}
 use Rattle.seivalto.proofs.adds.seivalto_add_touching.Goals as goal
 
 pub returns : goal.returns

@@ -1,6 +1,5 @@
 -- `seivalto::sparse::seivalto_sparse_rows` meets its contract: its answer is the C form of the inner call's, and the lists are as that call leaves them.
 -- Assumes nothing.
-use borrow.Author.Rules.{rules}
 use Rattle.seivalto.proofs.sparse.seivalto_sparse_rows.Goals as goal
 
 pub returns : goal.returns
