@@ -1,0 +1,2 @@
+-- The numbers of refusals (`Numbers`).
+pub mod Numbers
