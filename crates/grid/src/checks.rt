@@ -4,14 +4,17 @@ ghost use Rattle.lists.specs.Bool.{every};
 ghost use Rattle.lists.specs.Bounded.{all};
 ghost use Rattle.lists.specs.Refusals.{refusal};
 ghost use Rattle.numbers.specs.Ranges.{within, all_below};
+ghost use Rattle.refusals.specs.Numbers.{told};
 ghost use Rattle.grid.specs.Cells.{before, part, own, distinct};
 ghost use Rattle.grid.specs.CellsFacts.{Shaped};
-ghost use Rattle.grid.specs.Mesh.{most_cells, most_vertices, most_edges, mesh_with, kinds_right, edge_rule, edges_right, mesh_checks};
+ghost use Rattle.grid.specs.Lent.{mesh_lent};
+ghost use Rattle.grid.specs.Mesh.{most_cells, most_vertices, most_edges, kinds_right, edge_rule, edges_right, mesh_checks};
 
 use crate::edge_rule::keeps_edge_rule;
 use crate::shape::{count_places, end_of, is_distinct, kinds_known};
-use crate::{MOST_CELLS, MOST_EDGES, MOST_VERTICES, Sizes};
+use crate::{MOST_CELLS, MOST_EDGES, MOST_VERTICES, Mesh};
 use numbers::{all_below, is_within, wide};
+use refusals::Refusal;
 
 // Check 26.
 fn kinds_right(cells: u32, kinds: &[u8]) -> bool
@@ -74,33 +77,38 @@ fn edges_sized(edges: u32, kinds: &[u8], cell_edges: &[u32]) -> bool
 }
 
 // Check 3, of a mesh that passes checks 1, 26 and 2.
-fn edges_right(sizes: Sizes, kinds: &[u8], cell_vertices: &[u32], cell_edges: &[u32]) -> bool
-    requires shaped { Shaped kinds.now cell_vertices.now × (all_below cell_vertices.now most_vertices ≡ true) }
-    requires kinds_len { length kinds.now ≡ sizes.cells }
-    ensures { result ≡ edges_right (mesh_with sizes kinds.now cell_vertices.now cell_edges.now) }
+fn edges_right(mesh: Mesh) -> bool
+    requires shaped { Shaped mesh.kinds.now mesh.cell_vertices.now × (all_below mesh.cell_vertices.now most_vertices ≡ true) }
+    requires kinds_len { length mesh.kinds.now ≡ mesh.sizes.cells }
+    ensures { result ≡ edges_right (mesh_lent mesh.entry) }
 {
-    if edges_sized(sizes.edges, kinds, cell_edges) {
-        keeps_edge_rule(kinds, cell_vertices, cell_edges, sizes.edges as usize)
-    } else {
-        false
-    }
+    edges_sized(mesh.sizes.edges, mesh.kinds, mesh.cell_edges)
+        && keeps_edge_rule(
+            mesh.kinds,
+            mesh.cell_vertices,
+            mesh.cell_edges,
+            mesh.sizes.edges as usize,
+        )
 }
 
-// The number of the first of checks 1, 26, 1, 2 and 3 that turns the mesh down, or 0.
-pub fn mesh_refusal(sizes: Sizes, kinds: &[u8], cell_vertices: &[u32], cell_edges: &[u32]) -> u32
-    ensures { result ≡ refusal (mesh_checks (mesh_with sizes kinds.now cell_vertices.now cell_edges.now)) }
+// Why the mesh is turned down, if it is: the first of checks 1, 26, 1, 2 and 3 that it fails.
+pub fn mesh_refusal(mesh: Mesh) -> Result<(), Refusal>
+    ensures { told result ≡ refusal (mesh_checks (mesh_lent mesh.entry)) }
 {
-    if !is_within(1, MOST_CELLS as u64, sizes.cells as u64) {
-        1
-    } else if !kinds_right(sizes.cells, kinds) {
-        26
-    } else if !places_right(kinds, cell_vertices) {
-        1
-    } else if !vertices_right(sizes.vertices, kinds, cell_vertices) {
-        2
-    } else if !edges_right(sizes, kinds, cell_vertices, cell_edges) {
-        3
-    } else {
-        0
+    if !is_within(1, MOST_CELLS as u64, mesh.sizes.cells as u64) {
+        return Err(Refusal::Cells);
     }
+    if !kinds_right(mesh.sizes.cells, mesh.kinds) {
+        return Err(Refusal::Kinds);
+    }
+    if !places_right(mesh.kinds, mesh.cell_vertices) {
+        return Err(Refusal::Cells);
+    }
+    if !vertices_right(mesh.sizes.vertices, mesh.kinds, mesh.cell_vertices) {
+        return Err(Refusal::Vertices);
+    }
+    if !edges_right(mesh) {
+        return Err(Refusal::Edges);
+    }
+    Ok(())
 }

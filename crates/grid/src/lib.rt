@@ -6,10 +6,7 @@ mod edge_rule;
 mod shape;
 
 pub use checks::mesh_refusal;
-pub use shape::{
-    cell_of, corners_of, count_kind, edge_joining, fourth_or_first, has_entity, is_triangle,
-    kinds_match, second_of, write_rows,
-};
+pub use shape::{Rows, corners_of, count_kind, edge_joining, kinds_match, second_of, write_rows};
 
 // The most cells, vertices and edges of a mesh.
 pub const MOST_CELLS: usize = 2048;
@@ -24,4 +21,13 @@ pub struct Sizes {
     pub cells: u32,
     pub vertices: u32,
     pub edges: u32,
+}
+
+// A mesh as it is lent: its sizes, the kind of each cell, and as many vertices and as many edges of each cell as its kind says, one cell after the other.
+#[derive(Clone, Copy)]
+pub struct Mesh<'a> {
+    pub sizes: Sizes,
+    pub kinds: &'a [u8],
+    pub cell_vertices: &'a [u32],
+    pub cell_edges: &'a [u32],
 }

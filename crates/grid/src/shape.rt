@@ -297,45 +297,57 @@ pub fn write_rows(kinds: &[u8], list: &[u32], none: u32, rows: &mut [u32])
     }
 }
 
-// Whether a cell is a triangle, by its row.
-pub fn is_triangle(rows: &[u32], none: u32, cell: usize) -> bool
-    requires { 4 * cell + 4 ≤ length rows.now }
-    ensures { result ≡ eqb (entity rows.now cell 3) none }
-{
-    rows[4 * cell + 3] == none
+// The rows of the cells, and the number that stands in the fourth place of a triangle's.
+#[derive(Clone, Copy)]
+pub struct Rows<'a> {
+    pub rows: &'a [u32],
+    pub none: u32,
 }
 
-// The numbers of a cell, three or four, from its row.
-pub fn cell_of<'a>(rows: &'a [u32], none: u32, cell: usize) -> &'a [u32]
-    requires { 4 * cell + 4 ≤ length rows.now }
-    ensures { result.now ≡ cell_in none rows.now cell }
-{
-    let at = 4 * cell;
-    if is_triangle(rows, none, cell) {
-        &rows[at..at + 3]
-    } else {
-        &rows[at..at + 4]
+impl<'a> Rows<'a> {
+    // Whether cell i is a triangle.
+    pub fn is_triangle(self, i: usize) -> bool
+        requires { 4 * i + 4 ≤ length self.rows.now }
+        ensures { result ≡ eqb (entity self.entry.rows.now i 3) self.entry.none }
+    {
+        self.rows[4 * i + 3] == self.none
     }
-}
 
-// The fourth number of a cell, from its row, or where it has none its first again: so `none`, in the row of another cell, is none of the four.
-pub fn fourth_or_first(rows: &[u32], none: u32, cell: usize) -> u32
-    requires { 4 * cell + 4 ≤ length rows.now }
-    ensures { result ≡ fourth_or_first none rows.now cell }
-{
-    let at = 4 * cell;
-    if is_triangle(rows, none, cell) {
-        rows[at]
-    } else {
-        rows[at + 3]
+    // The numbers of cell i, three or four.
+    pub fn cell(self, i: usize) -> &'a [u32]
+        requires { 4 * i + 4 ≤ length self.rows.now }
+        ensures { result.now ≡ cell_in self.entry.none self.entry.rows.now i }
+    {
+        let at = 4 * i;
+        if self.is_triangle(i) {
+            &self.rows[at..at + 3]
+        } else {
+            &self.rows[at..at + 4]
+        }
     }
-}
 
-// Whether x is one of the four numbers of a cell's row.
-pub fn has_entity(rows: &[u32], cell: usize, x: u32) -> bool
-    requires { 4 * cell + 4 ≤ length rows.now }
-    ensures { result ≡ has (row rows.now cell) x }
-{
-    let at = 4 * cell;
-    (rows[at] == x) | (rows[at + 1] == x) | (rows[at + 2] == x) | (rows[at + 3] == x)
+    // The fourth number of cell i, or where it has none its first again: so `none`, in the row of another cell, is none of the four.
+    pub fn fourth_or_first(self, i: usize) -> u32
+        requires { 4 * i + 4 ≤ length self.rows.now }
+        ensures { result ≡ fourth_or_first self.entry.none self.entry.rows.now i }
+    {
+        let at = 4 * i;
+        if self.is_triangle(i) {
+            self.rows[at]
+        } else {
+            self.rows[at + 3]
+        }
+    }
+
+    // Whether x is one of the four numbers of cell i's row.
+    pub fn has_entity(self, i: usize, x: u32) -> bool
+        requires { 4 * i + 4 ≤ length self.rows.now }
+        ensures { result ≡ has (row self.entry.rows.now i) x }
+    {
+        let at = 4 * i;
+        (self.rows[at] == x)
+            | (self.rows[at + 1] == x)
+            | (self.rows[at + 2] == x)
+            | (self.rows[at + 3] == x)
+    }
 }

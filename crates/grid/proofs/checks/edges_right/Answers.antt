@@ -13,4 +13,4 @@ pub returns-then-edges_sized : goal.returns-then-edges_sized
 returns-then-edges_sized c = edges_right_by _ c.requires.shaped.0 c.requires.shaped.1 c.requires.kinds_len (sym c.edges_sized.ensures ∙ c.if-edges_sized.true) c.keeps_edge_rule.ensures
 
 pub returns-else-edges_sized : goal.returns-else-edges_sized
-returns-else-edges_sized c = edges_right_not _ c.requires.shaped.0 c.requires.shaped.1 c.requires.kinds_len (sym c.edges_sized.ensures ∙ c.if-edges_sized.false)
+returns-else-edges_sized c = c.if-edges_sized.false ∙ edges_right_not _ c.requires.shaped.0 c.requires.shaped.1 c.requires.kinds_len (sym c.edges_sized.ensures ∙ c.if-edges_sized.false)
