@@ -1,14 +1,23 @@
 -- Laws on local matrices put into the matrix and into entry lists: which entries count, and how long the lists are. Assumes nothing.
-use Rattle.std.specs.Prelude.{ℕ, ◌+◌, ◌*◌, ◌≤◌, ◌<◌, ◌≡◌, refl, length, get_or, Float}
-use Rattle.std.proofs.Common.{arith, sym, ap, ◌∙◌, length-set}
-use mathlib.Core.List.{List, [], ◌∷◌, flat_map, map}
+use Rattle.std.specs.Prelude.{ℕ, take, drop, replicate, ◌+◌, ◌*◌, ◌≤◌, ◌<◌, ◌≡◌, refl, length, get_or, Float}
+use Rattle.std.proofs.Common.{arith, sym, ap, ap₂, ◌∙◌, length-set}
+use mathlib.Core.List.{List, ◌++◌, flat_map, map}
+use borrow.Rule.Slice.PartMut.{put_mid}
+use Rattle.std.specs.Float.{nan}
+use Rattle.std.specs.List.{between}
+use Rattle.std.proofs.Math.Seq.{take-length}
+use Rattle.std.proofs.lemmas.Slice.{put_mid-paste}
+use Rattle.std.proofs.lemmas.Simd.{splat_is_map}
+use Rattle.std.proofs.lemmas.List.Edits.{sets, sets-eq, get_or-between}
+use Rattle.lists.specs.Writes.{Blocks, blocks_start, blocks_room, blocks_turn, blocks_done}
+use Rattle.numbers.specs.Floats.{◌!◌}
 use Rattle.std.proofs.lemmas.List.{length-map}
-use Rattle.lists.specs.Range.{range, length_range, flat_map_ext, flat_map_below, flat_map_places, flat_map_map, map_below, length_blocks}
+use Rattle.lists.specs.Range.{range, length_range, flat_map_below, flat_map_places, map_places, map_below, length_blocks}
 use Rattle.lists.specs.Fold.{upto, upto_keeps, upto_ext, Folded, folded_turn}
 use Rattle.lists.specs.Places.{in_row}
 use Rattle.function.specs.Elements.{most_dim}
 use Rattle.scatter.specs.Adding.{add_at, add_local, local_rows, local_columns, local_values}
-use Rattle.scatter.specs.Entries.{AddFits, ColumnFits, add_row, add_column, add_trial}
+use Rattle.scatter.specs.Entries.{entry_at, HasRoom, AddFits, ColumnFits, add_row, add_column, add_trial}
 
 -- entry (i,j) is among the hundred, and so is (j,i)
 pub in_hundred : {m i j : ℕ} → m ≤ most_dim → i < m → j < most_dim → (j + m * i < 100) × (i + m * j < 100)
@@ -27,19 +36,19 @@ length_add_local entry rows test_dofs trial_dofs M =
     upto_keeps length _ (λ j A. upto_keeps length _ (λ i B. length_add_at B _ _) (length test_dofs) A) (length trial_dofs) M
 
 -- a turn of the loop over the test basis
-pub row_turn : (entry : ℕ → Float) (base : ℕ) (test_dofs : List ℕ) {xs ys : List Float} {i row : ℕ}
-    → Folded (add_row entry base test_dofs) (length test_dofs) xs ys i → i < length test_dofs → row ≡ get_or test_dofs i 0
-    → Folded (add_row entry base test_dofs) (length test_dofs) xs (add_at ys (row + base) (entry i)) (i + 1)
+pub row_turn : (entry : ℕ → Float) (base : ℕ) (test_dofs : List ℕ) {xs ys : List Float} {i row : ℕ} {v : Float}
+    → Folded (add_row entry base test_dofs) (length test_dofs) xs ys i → i < length test_dofs → row ≡ get_or test_dofs i 0 → v ≡ entry i
+    → Folded (add_row entry base test_dofs) (length test_dofs) xs (add_at ys (row + base) v) (i + 1)
 unfolding add_row
-row_turn entry base test_dofs {ys = ys} {i} {row} h l e =
-    folded_turn h l (length_add_at ys (row + base) (entry i)) (ap (λ (r : ℕ). add_at ys (r + base) (entry i)) e)
+row_turn entry base test_dofs {ys = ys} {i} {row} {v} h l e f =
+    folded_turn h l (length_add_at ys (row + base) v) (ap₂ (λ (r : ℕ) (x : Float). add_at ys (r + base) x) e f)
 
 -- what a turn of the loop over the trial basis needs, what it does, and the whole loop
 pub column_fits : {M : List Float} {rows columns : ℕ} {test_dofs trial_dofs : List ℕ} → AddFits M rows columns test_dofs trial_dofs
     → {j : ℕ} → j < length trial_dofs → {column : ℕ} → column ≡ get_or trial_dofs j 0 → {A : List Float} → length A ≡ length M
-    → ColumnFits A rows (rows * column) test_dofs j
+    → ColumnFits A rows (rows * column) test_dofs
 column_fits {rows = rows} {columns} h {j} l {column} e same =
-    record { size = omega (arith, h.size, in_row rows columns column (omega (arith, h.trial j l))); test = h.test; few = h.few; basis = omega (arith, h.few_trial) }
+    record { size = omega (arith, h.size, in_row rows columns column (omega (arith, h.trial j l))); test = h.test }
 
 pub trial_turn : (entry : ℕ → ℕ → Float) (rows : ℕ) (test_dofs trial_dofs : List ℕ) {xs ys zs : List Float} {j column : ℕ}
     → Folded (add_trial entry rows test_dofs trial_dofs) (length trial_dofs) xs ys j → j < length trial_dofs → column ≡ get_or trial_dofs j 0
@@ -48,6 +57,17 @@ pub trial_turn : (entry : ℕ → ℕ → Float) (rows : ℕ) (test_dofs trial_d
 unfolding add_trial
 trial_turn entry rows test_dofs trial_dofs {ys = ys} {j = j} h l e same turn =
     folded_turn h l same (turn ∙ ap (λ (k : ℕ). add_column (λ i. entry i j) (rows * k) test_dofs ys) e)
+
+-- the entries of trial basis j, read from where they begin
+pub column_entries : (entries : List Float) (test_dofs : List ℕ) (j base : ℕ) (M : List Float)
+    → add_column (λ i. between (length test_dofs * j) (length test_dofs * j + length test_dofs) entries ! i) base test_dofs M
+    ≡ add_column (λ i. entry_at entries (length test_dofs) i j) base test_dofs M
+unfolding add_row
+column_entries entries test_dofs j base M =
+    let m : ℕ = length test_dofs in
+    upto_ext _ _ m
+    (λ i h A. ap (λ (v : Float). add_at A (get_or test_dofs i 0 + base) v)
+    (get_or-between entries (m * j) (m * j + m) i nan (omega arith) ∙ ap (λ (k : ℕ). entries ! k) (omega arith))) M
 
 pub trial_all : (entry : ℕ → ℕ → Float) (rows : ℕ) (test_dofs trial_dofs : List ℕ) (M : List Float)
     → upto (add_trial entry rows test_dofs trial_dofs) (length trial_dofs) M ≡ add_local entry rows test_dofs trial_dofs M
@@ -76,15 +96,10 @@ pub rows_places : (test_dofs trial_dofs : List ℕ) → local_rows test_dofs tri
 unfolding local_rows
 rows_places test_dofs trial_dofs = flat_map_places (λ column. test_dofs) trial_dofs 0
 
-same_for_each : (v : ℕ) (xs : List ℕ) → map (λ x. v) xs ≡ map (λ x. v) (range (length xs))
-same_for_each v xs = sym (flat_map_map (λ x. v) xs) ∙ flat_map_places (λ x. v ∷ []) xs 0 ∙ flat_map_map (λ x. v) (range (length xs))
-
 pub columns_places : (test_dofs trial_dofs : List ℕ)
-    → local_columns test_dofs trial_dofs ≡ flat_map (λ j. map (λ row. get_or trial_dofs j 0) (range (length test_dofs))) (range (length trial_dofs))
+    → local_columns test_dofs trial_dofs ≡ flat_map (λ j. map (λ row. get_or trial_dofs j 0) test_dofs) (range (length trial_dofs))
 unfolding local_columns
-columns_places test_dofs trial_dofs =
-    flat_map_ext _ _ (λ column. same_for_each column test_dofs) trial_dofs
-    ∙ flat_map_places (λ column. map (λ row. column) (range (length test_dofs))) trial_dofs 0
+columns_places test_dofs trial_dofs = flat_map_places (λ column. map (λ row. column) test_dofs) trial_dofs 0
 
 pub length_local_rows : (test_dofs trial_dofs : List ℕ) → length (local_rows test_dofs trial_dofs) ≡ length test_dofs * length trial_dofs
 length_local_rows test_dofs trial_dofs =
@@ -92,8 +107,65 @@ length_local_rows test_dofs trial_dofs =
 
 pub length_local_columns : (test_dofs trial_dofs : List ℕ) → length (local_columns test_dofs trial_dofs) ≡ length test_dofs * length trial_dofs
 length_local_columns test_dofs trial_dofs =
-    ap length (columns_places test_dofs trial_dofs) ∙ length_blocks _ (length test_dofs) (λ j. length-map (range (length test_dofs)) _ ∙ length_range (length test_dofs)) (length trial_dofs)
+    ap length (columns_places test_dofs trial_dofs) ∙ length_blocks _ (length test_dofs) (λ j. length-map test_dofs _) (length trial_dofs)
 
 pub length_local_values : (entry : ℕ → ℕ → Float) (m n : ℕ) → length (local_values entry m n) ≡ m * n
 unfolding local_values
 length_local_values entry m n = length_blocks _ m (λ j. length-map (range m) _ ∙ length_range m) n
+
+-- ---- the loop over the trial basis that writes all three
+
+-- so many elements written over those from a on
+put_block : {A : Type 0} (a k : ℕ) (xs ys : List A) → length ys ≡ k → a + k ≤ length xs → put_mid a k xs ys ≡ sets xs a ys
+put_block a k xs ys e r =
+    put_mid-paste a k xs ys ys (length ys) refl e refl ∙ ap (λ l. take a xs ++ l ++ drop (a + length ys) xs) (take-length ys) ∙ sym (sets-eq ys xs a (omega arith))
+
+-- column j of the entries
+entries_block : (entries : List Float) (m j : ℕ) → length (between (m * j) (m * j + m) entries) ≡ m → between (m * j) (m * j + m) entries ≡ map (λ i. entry_at entries m i j) (range m)
+entries_block entries m j n =
+    sym (map_places (between (m * j) (m * j + m) entries) nan)
+    ∙ ap (λ (k : ℕ). map (λ i. between (m * j) (m * j + m) entries ! i) (range k)) n
+    ∙ map_below _ _ m (λ i h. get_or-between entries (m * j) (m * j + m) i nan (omega arith) ∙ ap (λ (k : ℕ). entries ! k) (omega arith))
+
+-- the columns below j are written
+pub record Writing (at : ℕ) (test_dofs trial_dofs : List ℕ) (entries : List Float) (rs rs' cs cs' : List ℕ) (vs vs' : List Float) (j : ℕ) : Type 0 where
+  pub for_rows : Blocks (λ _. test_dofs) (length test_dofs) (length trial_dofs) rs rs' at j
+  pub for_columns : Blocks (λ (k : ℕ). map (λ row. get_or trial_dofs k 0) test_dofs) (length test_dofs) (length trial_dofs) cs cs' at j
+  pub for_values : Blocks (λ (k : ℕ). map (λ i. entry_at entries (length test_dofs) i k) (range (length test_dofs))) (length test_dofs) (length trial_dofs) vs vs' at j
+
+pub writing_start : (at : ℕ) (test_dofs trial_dofs : List ℕ) (entries : List Float) (rs cs : List ℕ) (vs : List Float) → Writing at test_dofs trial_dofs entries rs rs cs cs vs vs 0
+writing_start at test_dofs trial_dofs entries rs cs vs =
+    record { for_rows = blocks_start _ _ _ _ _; for_columns = blocks_start _ _ _ _ _; for_values = blocks_start _ _ _ _ _ }
+
+module _ {at : ℕ} {test_dofs trial_dofs : List ℕ} {entries : List Float} {rs rs' cs cs' : List ℕ} {vs vs' : List Float} {j : ℕ}
+    (w : Writing at test_dofs trial_dofs entries rs rs' cs cs' vs vs' j) (h : j < length trial_dofs) (room : HasRoom at rs cs vs test_dofs trial_dofs) where
+  -- the places of a turn
+  pub writing_places : (at + length test_dofs * j + length test_dofs ≤ length rs') × (at + length test_dofs * j + length test_dofs ≤ length cs')
+      × (at + length test_dofs * j + length test_dofs ≤ length vs')
+  writing_places = (blocks_room w.for_rows h room.for_rows, blocks_room w.for_columns h room.for_columns, blocks_room w.for_values h room.for_values)
+
+  pub writing_turn : {c : ℕ} {row column : List ℕ} {values : List Float} → row ≡ test_dofs → c ≡ get_or trial_dofs j 0 → {n : ℕ} → column ≡ replicate n c → n ≡ length test_dofs
+      → length values ≡ length test_dofs → values ≡ between (length test_dofs * j) (length test_dofs * j + length test_dofs) entries → {k : ℕ} → k ≡ length test_dofs
+      → Writing at test_dofs trial_dofs entries rs (put_mid (at + length test_dofs * j) k rs' row) cs (put_mid (at + length test_dofs * j) k cs' column)
+      vs (put_mid (at + length test_dofs * j) k vs' values) (j + 1)
+  writing_turn {c} {row} {column} {values} er ec es en n ev {k} ek =
+      let m : ℕ = length test_dofs in
+      let p = writing_places in
+      let col : column ≡ map (λ row. get_or trial_dofs j 0) test_dofs = es ∙ ap (λ (i : ℕ). replicate i c) en ∙ splat_is_map test_dofs m c refl ∙ ap (λ (v : ℕ). map (λ row. v) test_dofs) ec in
+      let val : values ≡ map (λ i. entry_at entries m i j) (range m) = ev ∙ entries_block entries m j (sym (ap length ev) ∙ n) in
+      record {
+        for_rows = blocks_turn w.for_rows (λ _. refl) h
+            (put_block (at + m * j) k rs' row (ap length er ∙ sym ek) (omega arith) ∙ ap (sets rs' (at + m * j)) er);
+        for_columns = blocks_turn w.for_columns (λ _. length-map test_dofs _) h
+            (put_block (at + m * j) k cs' column (ap length col ∙ length-map test_dofs _ ∙ sym ek) (omega arith) ∙ ap (sets cs' (at + m * j)) col);
+        for_values = blocks_turn w.for_values (λ _. length-map (range m) _ ∙ length_range m) h
+            (put_block (at + m * j) k vs' values (n ∙ sym ek) (omega arith) ∙ ap (sets vs' (at + m * j)) val);
+      }
+
+pub writing_done : {at : ℕ} {test_dofs trial_dofs : List ℕ} {entries : List Float} {rs rs' cs cs' : List ℕ} {vs vs' : List Float} {j : ℕ}
+    → Writing at test_dofs trial_dofs entries rs rs' cs cs' vs vs' j → length trial_dofs ≤ j
+    → (rs' ≡ sets rs at (local_rows test_dofs trial_dofs)) × (cs' ≡ sets cs at (local_columns test_dofs trial_dofs))
+    × (vs' ≡ sets vs at (local_values (entry_at entries (length test_dofs)) (length test_dofs) (length trial_dofs)))
+unfolding local_values
+writing_done w h =
+    (rw rows_places (blocks_done w.for_rows h), rw columns_places (blocks_done w.for_columns h), blocks_done w.for_values h)

@@ -18,11 +18,17 @@ pub record AddFits (matrix : List Float) (rows columns : ℕ) (test_dofs trial_d
   pub few_trial : length trial_dofs ≤ most_dim
 
 -- the column that starts at base is within the matrix, and has the row of each test DOF
-pub record ColumnFits (matrix : List Float) (rows base : ℕ) (test_dofs : List ℕ) (j : ℕ) : Type 0 where
+pub record ColumnFits (matrix : List Float) (rows base : ℕ) (test_dofs : List ℕ) : Type 0 where
   pub size : base + rows ≤ length matrix
   pub test : (k : ℕ) → k < length test_dofs → get_or test_dofs k 0 < rows
+
+-- each entry list has room for the local matrix from place at on; there are at most 10 DOFs of each
+pub record HasRoom (at : ℕ) (rows columns : List ℕ) (values : List Float) (test_dofs trial_dofs : List ℕ) : Type 0 where
+  pub for_rows : at + length test_dofs * length trial_dofs ≤ length rows
+  pub for_columns : at + length test_dofs * length trial_dofs ≤ length columns
+  pub for_values : at + length test_dofs * length trial_dofs ≤ length values
   pub few : length test_dofs ≤ most_dim
-  pub basis : j < most_dim
+  pub few_trial : length trial_dofs ≤ most_dim
 
 -- test basis i of one column, added from base on; and the whole column
 unfoldable pub add_row : (ℕ → Float) → ℕ → List ℕ → ℕ → List Float → List Float

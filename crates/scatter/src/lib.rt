@@ -2,116 +2,89 @@
 #![tactic(auto)]
 
 ghost use Rattle.function.specs.Elements.{most_dim};
-ghost use Rattle.std.specs.Prelude.{◌≡◌, map, ℕ, ◌+◌, ◌*◌, ◌≤◌, ◌<◌, length};
+ghost use Rattle.std.specs.Prelude.{◌≡◌, ℕ, ◌+◌, ◌*◌, ◌≤◌, ◌<◌, length};
 ghost use Rattle.std.proofs.lemmas.List.Edits.{sets};
-ghost use Rattle.lists.specs.Range.{range};
+ghost use Rattle.numbers.specs.Floats.{◌!◌};
 ghost use Rattle.scatter.specs.Adding.{add_local, local_rows, local_columns, local_values};
-ghost use Rattle.scatter.specs.Entries.{entry_at, AddFits, ColumnFits, add_column};
+ghost use Rattle.scatter.specs.Entries.{entry_at, AddFits, ColumnFits, add_column, HasRoom};
 
 use numbers::wide;
 
-// The entries of trial basis j, added to a column that starts at base.
-fn add_column(
-    matrix: &mut [f64],
-    rows: usize,
-    base: usize,
-    test_dofs: &[u32],
-    entries: &[f64; 100],
-    j: usize,
-)
-    requires { ColumnFits matrix.old rows base test_dofs.now j }
-    ensures { matrix.new ≡ add_column (λ (i : ℕ). entry_at entries.now (length test_dofs.now) i j)
+// The DOFs of a local matrix's rows and columns, and its entries.
+#[derive(Clone, Copy)]
+pub struct LocalMatrix<'a> {
+    pub test_dofs: &'a [u32],
+    pub trial_dofs: &'a [u32],
+    pub entries: &'a [f64; 100],
+}
+
+// Entry lists: the row, the column and the value of each entry.
+#[derive(Drop)]
+pub struct EntryLists<'a> {
+    pub rows: &'a mut [u32],
+    pub columns: &'a mut [u32],
+    pub values: &'a mut [f64],
+}
+
+// The entries of one trial basis function, added to a column that starts at base.
+fn add_column(matrix: &mut [f64], rows: usize, base: usize, test_dofs: &[u32], entries: &[f64])
+    requires fits { ColumnFits matrix.old rows base test_dofs.now }
+    requires entries_len { length entries.now ≡ length test_dofs.now }
+    ensures { matrix.new ≡ add_column (λ (i : ℕ). entries.now ! i)
         base test_dofs.now matrix.old }
 {
-    let m = test_dofs.len();
-    for i in 0..m {
-        let at = wide(test_dofs[i]) + base;
-        let v = entries[i + m * j];
-        matrix[at] = matrix[at] + v;
+    for (&row, &entry) in test_dofs.iter().zip(entries) {
+        matrix[wide(row) + base] += entry;
     }
 }
 
-// Adds the local matrix to the matrix: entry (i, j) at row + rows·column.
-pub fn add_local(
-    matrix: &mut [f64],
-    rows: usize,
-    columns: usize,
-    test_dofs: &[u32],
-    trial_dofs: &[u32],
-    entries: &[f64; 100],
-)
-    requires { AddFits matrix.old rows columns test_dofs.now trial_dofs.now }
-    ensures { matrix.new ≡ add_local (entry_at entries.now (length test_dofs.now)) rows
-        test_dofs.now trial_dofs.now matrix.old }
-{
-    let n = trial_dofs.len();
-    for j in 0..n {
-        let base = rows * wide(trial_dofs[j]);
-        add_column(matrix, rows, base, test_dofs, entries, j);
+impl LocalMatrix<'_> {
+    // Adds the local matrix to the matrix: entry (i, j) at row + rows·column.
+    pub fn add_to(self, matrix: &mut [f64], rows: usize, columns: usize)
+        requires { AddFits matrix.old rows columns self.test_dofs.now self.trial_dofs.now }
+        ensures { matrix.new ≡ add_local (entry_at self.entry.entries.now (length self.entry.test_dofs.now)) rows
+            self.entry.test_dofs.now self.entry.trial_dofs.now matrix.old }
+    {
+        let LocalMatrix {
+            test_dofs,
+            trial_dofs,
+            entries,
+        } = self;
+        let m = test_dofs.len();
+        for (j, &column) in trial_dofs.iter().enumerate() {
+            let base = rows * wide(column);
+            let first = m * j;
+            add_column(matrix, rows, base, test_dofs, &entries[first..first + m]);
+        }
     }
 }
 
-// The rows of one column.
-fn write_test_dofs(rows: &mut [u32], at: usize, test_dofs: &[u32])
-    requires { at + length test_dofs.now ≤ length rows.old }
-    ensures { rows.new ≡ sets rows.old at test_dofs.now }
-{
-    let m = test_dofs.len();
-    for i in 0..m {
-        rows[at + i] = test_dofs[i];
-    }
-}
-
-// The row of each entry, written from place at on.
-pub fn write_rows(rows: &mut [u32], at: usize, test_dofs: &[u32], trial_dofs: &[u32])
-    requires { at + length test_dofs.now * length trial_dofs.now ≤ length rows.old }
-    ensures { rows.new ≡ sets rows.old at (local_rows test_dofs.now trial_dofs.now) }
-{
-    let m = test_dofs.len();
-    let n = trial_dofs.len();
-    for j in 0..n {
-        write_test_dofs(rows, at + m * j, test_dofs);
-    }
-}
-
-// One column's number, m times.
-fn write_column(columns: &mut [u32], at: usize, m: usize, column: u32)
-    requires { at + m ≤ length columns.old }
-    ensures { columns.new ≡ sets columns.old at (map (λ (row : ℕ). column) (range m)) }
-{
-    for i in 0..m {
-        columns[at + i] = column;
-    }
-}
-
-// The column of each entry, written from place at on.
-pub fn write_columns(columns: &mut [u32], at: usize, test_dofs: &[u32], trial_dofs: &[u32])
-    requires { at + length test_dofs.now * length trial_dofs.now ≤ length columns.old }
-    ensures { columns.new ≡ sets columns.old at (local_columns test_dofs.now trial_dofs.now) }
-{
-    let m = test_dofs.len();
-    let n = trial_dofs.len();
-    for j in 0..n {
-        write_column(columns, at + m * j, m, trial_dofs[j]);
-    }
-}
-
-// The entries of trial basis j.
-fn write_column_values(values: &mut [f64], at: usize, m: usize, entries: &[f64; 100], j: usize)
-    requires { (at + m ≤ length values.old) × (m ≤ most_dim) × (j < most_dim) }
-    ensures { values.new ≡ sets values.old at (map (λ (i : ℕ). entry_at entries.now m i j) (range m)) }
-{
-    for i in 0..m {
-        values[at + i] = entries[i + m * j];
-    }
-}
-
-// The value of each entry of a local matrix with m rows and n columns, written from place at on.
-pub fn write_values(values: &mut [f64], at: usize, m: usize, n: usize, entries: &[f64; 100])
-    requires { (at + m * n ≤ length values.old) × (m ≤ most_dim) × (n ≤ most_dim) }
-    ensures { values.new ≡ sets values.old at (local_values (entry_at entries.now m) m n) }
-{
-    for j in 0..n {
-        write_column_values(values, at + m * j, m, entries, j);
+impl EntryLists<'_> {
+    // The row, the column and the value of each entry of a local matrix, written from place at on.
+    pub fn write(&mut self, at: usize, local: LocalMatrix)
+        requires fits { HasRoom at self.old.rows.now self.old.columns.now self.old.values.now local.test_dofs.now local.trial_dofs.now }
+        ensures rows { self.new.rows.now ≡ sets self.old.rows.now at (local_rows local.entry.test_dofs.now local.entry.trial_dofs.now) }
+        ensures columns { self.new.columns.now ≡ sets self.old.columns.now at (local_columns local.entry.test_dofs.now local.entry.trial_dofs.now) }
+        ensures values { self.new.values.now ≡ sets self.old.values.now at
+            (local_values (entry_at local.entry.entries.now (length local.entry.test_dofs.now)) (length local.entry.test_dofs.now) (length local.entry.trial_dofs.now)) }
+        ensures same_lists { (self.new.rows.ghost_name ≡ self.old.rows.ghost_name)
+            × (self.new.columns.ghost_name ≡ self.old.columns.ghost_name) × (self.new.values.ghost_name ≡ self.old.values.ghost_name) }
+    {
+        let rows = &mut *self.rows;
+        let columns = &mut *self.columns;
+        let values = &mut *self.values;
+        let LocalMatrix {
+            test_dofs,
+            trial_dofs,
+            entries,
+        } = local;
+        let m = test_dofs.len();
+        for (j, &column) in trial_dofs.iter().enumerate() {
+            let first = m * j;
+            let place = at + first;
+            rows[place..place + m].copy_from_slice(test_dofs);
+            columns[place..place + m].fill(column);
+            values[place..place + m].copy_from_slice(&entries[first..first + m]);
+        }
     }
 }

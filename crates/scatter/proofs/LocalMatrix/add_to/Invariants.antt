@@ -1,14 +1,10 @@
--- `scatter::add_local` meets its contract. The invariant of its loop: the matrix is the fold over the trial basis passed, and as long as it was.
+-- `scatter::LocalMatrix::add_to` meets its contract. The invariant of its loop: the matrix is the fold over the trial basis passed, and as long as it was.
 -- Assumes nothing.
-use Prim.Native.Nat.{◌-◌}
 use lib.ListN.{length}
 use Rattle.lists.specs.Fold.{Folded}
 use Rattle.scatter.specs.Entries.{entry_at, add_trial}
-use Rattle.scatter.proofs.add_local.Given as goal
+use Rattle.scatter.proofs.LocalMatrix.add_to.Given as goal
 
 abbrev pub invariant-loop-j : goal.invariant-loop-j
 invariant-loop-j l =
     Folded (add_trial (entry_at l.entries (length l.test_dofs)) l.rows l.test_dofs l.trial_dofs) (length l.trial_dofs) l.initial.matrix l.matrix l.j
-
-abbrev pub decreases-loop-j : goal.decreases-loop-j
-decreases-loop-j l = l.n - l.j
