@@ -1,5 +1,5 @@
 -- The laws of the distant part. Assumes nothing.
-use Rattle.std.specs.Prelude.{◌≡◌, refl, ◌⊎◌, Bool, false, get_or, take, drop, eqb, ltb}
+use Rattle.std.specs.Prelude.{◌≡◌, refl, ◌⊎◌, Bool, false, ◌&&◌, get_or, take, drop, eqb, ltb}
 use Rattle.std.proofs.Math.Path.{sym, ap, ap₂, subst⁻¹}
 use Rattle.std.proofs.Common.{◌∙◌, le_refl, le_of_suc-le-suc, eq-or-lt_of_le, div-mul-le_self, mul-le-mul_left, mul-le-mul_right, arith}
 use Rattle.std.proofs.Math.Logic.{inl, inr, ⊎_elim}
@@ -120,34 +120,6 @@ module _ (rows : List ℕ) (a b c d j : ℕ) {i k : ℕ} {r : Bool} (e : k ≡ i
   unfolding distant_pair
   pair_one h = rw (sym told ∙ h)
 
--- ---- a loop over the batches, `while b * size < n`: how many there are of n cells
-
-abbrev pub batch_count : ℕ → ℕ → ℕ
-batch_count size n = (n + (size - 1)) / size
-
--- a batch that begins within the cells is one of them
-pub batch_one : {size b n : ℕ} → 0 < size → b * size < n → b < batch_count size n
-batch_one {size} {b} {n} p h = ⊎_elim (λ l. l) (λ l. absurd (past l)) (lt_or_le b (batch_count size n))
-  where
-    past : batch_count size n ≤ b → ⊥
-    past l = omega (arith, mul-le-mul_right size l, lt-div-mul-add {a = n + (size - 1)} p)
-
-pub batch_few : (size b n : ℕ) → 0 < size → b * size < n → b < n
-batch_few size b n p h = omega (arith, mul-le-mul_left b p)
-
--- past the last batch
-pub batch_past : {size b n : ℕ} → 0 < size → n ≤ b * size → batch_count size n ≤ b
-batch_past {size} {b} {n} p h = ⊎_elim (λ l. absurd (more l)) (λ l. l) (lt_or_le b (batch_count size n))
-  where
-    more : b < batch_count size n → ⊥
-    more l =
-        let m : (b + 1) * size ≤ batch_count size n * size = mul-le-mul_right size (omega arith) in
-        omega (arith, m, div-mul-le_self (n + (size - 1)) size)
-
--- where the loop's batch begins
-pub batch_begins : (size b n : ℕ) → b ≤ batch_count size n → b * size ≤ n + (size - 1)
-batch_begins size b n h = omega (arith, mul-le-mul_right size h, div-mul-le_self (n + (size - 1)) size)
-
 -- ---- the groups of a kind
 
 -- where they begin and end
@@ -206,14 +178,14 @@ no_cells {order = order} {ends = ends} cut k h none d l =
     ap (λ (n : ℕ). take n (drop (from ends v) order)) same
 
 module _ (none : ℕ) (rows : List ℕ) (B : ℕ) (test_order test_ends trial_order trial_ends : List ℕ) (n k : ℕ) where
-  pub no_test_cells : Cut rows test_order test_ends → n < 2 → has_cells test_ends n ≡ false → distant_tests none rows B test_order test_ends trial_order trial_ends n k ≡ []
+  no_test_cells : Cut rows test_order test_ends → n < 2 → has_cells test_ends n ≡ false → distant_tests none rows B test_order test_ends trial_order trial_ends n k ≡ []
   unfolding distant_tests distant_rest
   no_test_cells cut h e =
       flat_map_below _ (λ _. []) (half test_ends)
       (λ c l. ap (λ (tests : List ℕ). distant_rest none rows B tests trial_order trial_ends k) (no_cells cut n h e c l) ∙ flat_map_nil _ (λ d. no_tests (share none rows) B (part trial_order trial_ends (k * half trial_ends + d))) (range (half trial_ends)))
       ∙ flat_map_nil _ (λ _. refl) (range (half test_ends))
 
-  pub no_trial_cells : Cut rows trial_order trial_ends → k < 2 → has_cells trial_ends k ≡ false → distant_tests none rows B test_order test_ends trial_order trial_ends n k ≡ []
+  no_trial_cells : Cut rows trial_order trial_ends → k < 2 → has_cells trial_ends k ≡ false → distant_tests none rows B test_order test_ends trial_order trial_ends n k ≡ []
   unfolding distant_tests distant_rest
   no_trial_cells cut h e =
       flat_map_nil _
@@ -221,6 +193,12 @@ module _ (none : ℕ) (rows : List ℕ) (B : ℕ) (test_order test_ends trial_or
       (λ d l. ap (distant_colours (share none rows) B (part test_order test_ends (n * half test_ends + c))) (no_cells cut k h e d l) ∙ no_trials (share none rows) B (part test_order test_ends (n * half test_ends + c)))
       ∙ flat_map_nil _ (λ _. refl) (range (half trial_ends)))
       (range (half test_ends))
+
+  -- as the code asks it: r and s are the answers for the two kinds
+  pub no_cells_of : Cut rows test_order test_ends → Cut rows trial_order trial_ends → n < 2 → k < 2 → {r s : Bool} → r ≡ has_cells test_ends n → s ≡ has_cells trial_ends k → r && s ≡ false
+      → distant_tests none rows B test_order test_ends trial_order trial_ends n k ≡ []
+  no_cells_of cut cut' h h' {r = false} {s = s} e e' f = no_test_cells cut h (sym e)
+  no_cells_of cut cut' h h' {r = true} {s = s} e e' f = no_trial_cells cut' h' (sym e' ∙ f)
 
 module _ (m : Mesh) (long : length m.kinds ≡ m.cells) where
   none_coloured : (cs : List ℕ) (n c : ℕ) → ltb 0 (cells_of m.kinds n) ≡ false → coloured m cs n c ≡ []

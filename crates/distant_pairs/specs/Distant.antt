@@ -3,11 +3,11 @@
 -- of the work list. Assumes nothing.
 use Rattle.std.specs.Prelude.{◌≡◌, Bool, ℕ, ◌+◌, ◌*◌, ◌/◌, length, ltb}
 use mathlib.Core.List.{List, [], ◌∷◌, flat_map}
-use Rattle.lists.specs.Range.{range, batch}
+use Rattle.lists.specs.Range.{range}
 use Rattle.grid.specs.Cells.{share as share_number}
 use Rattle.grid.specs.Rows.{entity, row, share, fourth_or_first}
 use Rattle.cell_pairs.specs.declared.WorkRecord.{WorkRecord}
-use Rattle.cell_pairs.specs.WorkList.{batches, distant_pair, distant_batch, distant_colours}
+use Rattle.cell_pairs.specs.WorkList.{distant_pair, distant_colours}
 use Rattle.cells_by_key.specs.Groups.{from, part}
 
 -- a, b, c and d are the vertices of cell j: of a triangle, d is its first again
@@ -25,10 +25,6 @@ module _ (none : ℕ) (rows : List ℕ) where
   -- one trial cell against a batch of test cells
   unfoldable pub distant_row : List ℕ → ℕ → List WorkRecord
   distant_row tests j = flat_map (λ i. distant_pair (share none rows) i j) tests
-
-  -- each batch of a trial colour against a batch of test cells
-  unfoldable pub distant_trials : ℕ → List ℕ → List ℕ → List WorkRecord
-  distant_trials B tests trials = flat_map (λ d. distant_batch (share none rows) tests (batch B d trials)) (batches B trials)
 
 -- how many groups there are of each kind
 abbrev pub half : List ℕ → ℕ

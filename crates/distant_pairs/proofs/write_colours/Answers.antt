@@ -1,45 +1,49 @@
 -- See Invariants.antt. Assumes nothing.
-use Prim.Native.Nat.{◌<◌}
+use mathlib.Core.Path.{refl, ap, ◌∙◌}
 use native.Mathlib.Omega.{arith}
-use lib.ListN.{length}
-use Rattle.lists.specs.Writes.{turns_start, turns_room, turns_turn, turns_done}
-use Rattle.cells_by_key.specs.GroupsFacts.{cells_batch}
+use Rattle.std.specs.Slice.Iter.{chunks_rest, chunks_size}
+use Rattle.std.proofs.Common.{length-append}
 use Rattle.cell_pairs.specs.WorkList.{distant_colours}
-use Rattle.distant_pairs.specs.Distant.{distant_trials}
-use Rattle.distant_pairs.proofs.Facts.{batch_count, batch_one, batch_few, batch_past, batch_begins}
+use Rattle.cells_by_key.specs.GroupsFacts.{cells_batch}
+use Rattle.distant_pairs.proofs.Batches.{batched_start, batched_part, batched_room, batched_turn, batched_done}
 use Rattle.distant_pairs.proofs.write_colours.Goals as goal
-use Rattle.distant_pairs.proofs.write_colours.Goals.{In-loop-b}
 
-pub loop-b-init : goal.loop-b-init
-loop-b-init c = turns_start _ _ _ _
+pub loop-test_part-init : goal.loop-test_part-init
+loop-test_part-init c =
+    let e = c.into_iter-test_part-iterator.ensures.into_iter_gives in
+    batched_start _ _ _ (rw e c.chunks-test_part-items.ensures.rest) (rw e c.chunks-test_part-items.ensures.size)
 
-pub overflow_mul-b : goal.overflow_mul-b
-overflow_mul-b c = omega (arith, batch_begins _ _ _ c.loop-b.invariant.upto)
+pub loop-trial_part-init : goal.loop-trial_part-init
+loop-trial_part-init c =
+    let e = c.into_iter-trial_part-iterator.ensures.into_iter_gives in
+    batched_start _ _ _ (rw e c.chunks-trial_part-items.ensures.rest) (rw e c.chunks-trial_part-items.ensures.size)
 
--- a turn's batch is one of them
-below : (c : In-loop-b) → c.loop-b.b < batch_count c.args.batch (length c.args.tests.now)
-below c = batch_one c.requires.batch_nonzero.0 c.loop-b-test.true
+pub write_batch-next-requires-clause-cells : goal.write_batch-next-requires-clause-cells
+write_batch-next-requires-clause-cells c =
+    rw (batched_part c.loop-test_part.invariant c.requires.batch_nonzero.0 c.in-Some.test_part.now c.next.new.self.rest.now c.next.new.self.size c.in-Some.ensures.steps) (cells_batch _ _ c.requires.cells)
 
-pub batch_of-requires : goal.batch_of-requires
-batch_of-requires c = omega arith
+pub write_batch-next-requires-clause-cells_2 : goal.write_batch-next-requires-clause-cells_2
+write_batch-next-requires-clause-cells_2 c =
+    rw (batched_part c.loop-trial_part.invariant c.requires.batch_nonzero.0 c.in-Some-trial_part.trial_part.now c.next-in-loop-trial_part.new.self.rest.now c.next-in-loop-trial_part.new.self.size c.in-Some-trial_part.ensures.steps) (cells_batch _ _ c.requires.cells_2)
 
-pub write_trials-next-requires : goal.write_trials-next-requires
-unfolding distant_colours distant_trials
-write_trials-next-requires c = rw c.batch_of.ensures
-    (record { batch_nonzero = c.requires.batch_nonzero; padded = c.requires.padded; cells = cells_batch _ _ c.requires.cells; cells_2 = c.requires.cells_2; room = turns_room c.loop-b.invariant (below (goal.at.write_trials-next-requires c).In-loop-b) c.requires.room })
+pub write_batch-next-requires-clause-room : goal.write_batch-next-requires-clause-room
+unfolding distant_colours
+write_batch-next-requires-clause-room c =
+    let positive = c.requires.batch_nonzero.0 in
+    batched_room c.loop-trial_part.invariant positive c.in-Some-trial_part.trial_part.now c.next-in-loop-trial_part.new.self.rest.now c.next-in-loop-trial_part.new.self.size c.in-Some-trial_part.ensures.steps
+    (batched_room c.loop-test_part.invariant positive c.in-Some.test_part.now c.next.new.self.rest.now c.next.new.self.size c.in-Some.ensures.steps c.requires.room)
 
-pub overflow_add-b : goal.overflow_add-b
-overflow_add-b c =
-    omega (arith, batch_few _ _ _ c.requires.batch_nonzero.0 c.loop-b-test.true)
+pub loop-trial_part-preserved : goal.loop-trial_part-preserved
+loop-trial_part-preserved c =
+    rw length-append
+    (batched_turn c.loop-trial_part.invariant c.requires.batch_nonzero.0 c.in-Some-trial_part.trial_part.now c.next-in-loop-trial_part.new.self.rest.now c.next-in-loop-trial_part.new.self.size c.in-Some-trial_part.ensures.steps c.write_batch-next.ensures)
 
-pub loop-b-smaller : goal.loop-b-smaller
-loop-b-smaller c =
-    omega (arith, below (goal.at.loop-b-smaller c).In-loop-b)
-
-pub loop-b-preserved : goal.loop-b-preserved
-loop-b-preserved c =
-    turns_turn c.loop-b.invariant (below (goal.at.loop-b-preserved c).In-loop-b) (rw c.batch_of.ensures at c.write_trials-next.ensures)
+pub loop-test_part-preserved : goal.loop-test_part-preserved
+loop-test_part-preserved c =
+    let positive = c.requires.batch_nonzero.0 in
+    rw length-append
+    (batched_turn c.loop-test_part.invariant positive c.in-Some.test_part.now c.next.new.self.rest.now c.next.new.self.size c.in-Some.ensures.steps (batched_done c.loop-trial_part.invariant positive c.in-None-trial_part.ensures.steps.1.0))
 
 pub returns : goal.returns
-unfolding distant_colours distant_trials
-returns c = turns_done c.loop-b.invariant (batch_past c.requires.batch_nonzero.0 c.loop-b-test.false)
+unfolding distant_colours
+returns c = batched_done c.loop-test_part.invariant c.requires.batch_nonzero.0 c.in-None.ensures.steps.1.0

@@ -1,16 +1,17 @@
--- `distant_pairs::write_colours` meets its contract. The invariant of its loop: the records of the first b batches are written. Assumes nothing.
-use Prim.Native.Nat.{◌-◌}
+-- `distant_pairs::write_colours` meets its contract. The invariants of its loops: the records of the batches so far are written. Assumes nothing.
 use lib.ListN.{length}
+use Rattle.grid.specs.Rows.{share}
 use Rattle.lists.specs.Range.{batch}
-use Rattle.lists.specs.Writes.{Turns}
+use mathlib.Core.List.{flat_map}
 use Rattle.cell_pairs.specs.RecordsFacts.{records}
-use Rattle.distant_pairs.specs.Distant.{distant_trials}
-use Rattle.distant_pairs.proofs.Facts.{batch_count}
+use Rattle.cell_pairs.specs.WorkList.{batches, distant_batch}
+use Rattle.distant_pairs.proofs.Batches.{Batched}
 use Rattle.distant_pairs.proofs.write_colours.Given as goal
 
-abbrev pub invariant-loop-b : goal.invariant-loop-b
-invariant-loop-b l =
-    Turns records (λ b'. distant_trials l.none l.rows l.batch (batch l.batch b' l.tests) l.trials) (batch_count l.batch (length l.tests)) l.initial.work l.work l.at l.next l.b
+abbrev pub invariant-loop-test_part : goal.invariant-loop-test_part
+invariant-loop-test_part l =
+    Batched records (λ tests. flat_map (λ d. distant_batch (share l.none l.rows) tests (batch l.batch d l.trials)) (batches l.batch l.trials)) l.batch l.tests l.test_part-iterator.rest.now l.test_part-iterator.size l.initial.work l.work l.at l.next (length l.yielded)
 
-abbrev pub decreases-loop-b : goal.decreases-loop-b
-decreases-loop-b l = batch_count l.batch (length l.tests) - l.b
+abbrev pub invariant-loop-trial_part : goal.invariant-loop-trial_part
+invariant-loop-trial_part l =
+    Batched records (λ trials. distant_batch (share l.none l.rows) l.test_part trials) l.batch l.trials l.trial_part-iterator.rest.now l.trial_part-iterator.size l.initial.work l.work l.initial.next l.next (length l.yielded)

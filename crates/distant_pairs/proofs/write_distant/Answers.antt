@@ -1,24 +1,36 @@
 -- See Invariants.antt. Assumes nothing.
+use mathlib.Core.Path.{refl, ap, ◌∙◌}
 use native.Mathlib.Omega.{arith}
-use Rattle.lists.specs.Writes.{turns_start, turns_room, turns_turn, turns_done}
-use Rattle.distant_pairs.specs.Distant.{distant_parts}
+use Rattle.lists.specs.Writes.{wrote_none, turns_start, turns_room, turns_turn, turns_done}
+use Rattle.distant_pairs.specs.Distant.{distant_kind, distant_parts}
+use Rattle.distant_pairs.proofs.Facts.{no_cells_of}
 use Rattle.distant_pairs.proofs.write_distant.Goals as goal
+use Rattle.distant_pairs.proofs.write_distant.Goals.{then-has_cells, else-has_cells}
 
 pub loop-n-init : goal.loop-n-init
 loop-n-init c = turns_start _ _ _ _
 
-pub write_kind-next-requires : goal.write_kind-next-requires
-unfolding distant_parts
-write_kind-next-requires c =
-    let h = c.loop-n-test.true in
-    record { batch_nonzero = (c.requires.batch_nonzero.0, c.requires.batch_nonzero.1, h); padded = c.requires.padded; cut = c.requires.cut; cut_2 = c.requires.cut_2; room = turns_room c.loop-n.invariant h c.requires.room }
+pub loop-k-init : goal.loop-k-init
+loop-k-init c = turns_start _ _ _ _
 
-pub loop-n-smaller : goal.loop-n-smaller
-loop-n-smaller c = omega arith
+pub write_kinds-next-requires-clause-room : goal.write_kinds-next-requires-clause-room
+unfolding distant_parts distant_kind
+write_kinds-next-requires-clause-room c =
+    turns_room c.loop-k.invariant c.loop-k-test.true (turns_room c.loop-n.invariant c.loop-n-test.true c.requires.room)
+
+pub loop-k-preserved : goal.loop-k-preserved
+loop-k-preserved c =
+    elim c.if-has_cells.branch [
+      | then-has_cells w ↦ rw (w.work-is, w.next-is) (turns_turn c.loop-k.invariant c.loop-k-test.true w.write_kinds-next.ensures)
+      | else-has_cells w ↦
+          rw (w.work-is, w.next-is)
+          (turns_turn c.loop-k.invariant c.loop-k-test.true
+          (rw (no_cells_of c.args.none c.args.rows.now c.args.batch c.args.test_order.now c.args.test_ends.now c.args.trial_order.now c.args.trial_ends.now c.loop-n.n c.loop-k.k c.requires.cut c.requires.cut_2 c.loop-n-test.true c.loop-k-test.true c.has_cells.ensures c.has_cells-in-loop-k.ensures w.if-has_cells.false) (wrote_none _ _)))
+    ]
 
 pub loop-n-preserved : goal.loop-n-preserved
-loop-n-preserved c =
-    turns_turn c.loop-n.invariant c.loop-n-test.true c.write_kind-next.ensures
+unfolding distant_kind
+loop-n-preserved c = turns_turn c.loop-n.invariant c.loop-n-test.true (turns_done c.loop-k.invariant c.loop-k-test.false)
 
 pub returns : goal.returns
 unfolding distant_parts
