@@ -16,8 +16,8 @@ ghost use Rattle.cells_by_key.specs.Groups.{Cells, Cut};
 ghost use Rattle.distant_pairs.specs.Distant.{has_one_of, has_cells, distant_row, distant_tests, distant_parts};
 
 use cell_pairs::{DISTANT, WorkRecord, put_record};
-use cells_by_key::{part_of, start_of};
-use grid::fourth_or_first;
+use cells_by_key::Groups;
+use grid::Rows;
 use numbers::wide;
 
 // The vertices of a trial cell; of a triangle, the fourth is its first again.
@@ -37,29 +37,29 @@ fn is_one_of(v: Vertices, x: u32) -> bool
 }
 
 // Whether one of the vertices is in the cell's row.
-fn has_one_of(rows: &[u32], cell: usize, v: Vertices) -> bool
-    requires { 4 * cell + 4 ≤ length rows.now }
-    ensures { result ≡ has_one_of rows.now cell v.first v.second v.third v.fourth }
+fn has_one_of(rows: Rows<'_>, cell: usize, v: Vertices) -> bool
+    requires { 4 * cell + 4 ≤ length rows.rows.now }
+    ensures { result ≡ has_one_of rows.entry.rows.now cell v.first v.second v.third v.fourth }
 {
     let at = 4 * cell;
-    is_one_of(v, rows[at])
-        | is_one_of(v, rows[at + 1])
-        | is_one_of(v, rows[at + 2])
-        | is_one_of(v, rows[at + 3])
+    is_one_of(v, rows.rows[at])
+        | is_one_of(v, rows.rows[at + 1])
+        | is_one_of(v, rows.rows[at + 2])
+        | is_one_of(v, rows.rows[at + 3])
 }
 
 // The record of a pair of cells, if they are distant. The vertices are those of the trial cell.
 fn write_pair(
-    rows: &[u32],
+    rows: Rows<'_>,
     test: u32,
     trial: u32,
     v: Vertices,
     work: &mut [u32],
     at: usize,
 ) -> usize
-    requires test_in_bounds { 4 * test + 4 ≤ length rows.now }
-    requires room { Room records work.old at (distant_pair (λ i _. has_one_of rows.now i v.first v.second v.third v.fourth) test trial) }
-    ensures { Wrote records work.old work.new at result (distant_pair (λ i _. has_one_of rows.now i v.first v.second v.third v.fourth) test trial) }
+    requires test_in_bounds { 4 * test + 4 ≤ length rows.rows.now }
+    requires room { Room records work.old at (distant_pair (λ i _. has_one_of rows.rows.now i v.first v.second v.third v.fourth) test trial) }
+    ensures { Wrote records work.old work.new at result (distant_pair (λ i _. has_one_of rows.entry.rows.now i v.first v.second v.third v.fourth) test trial) }
 {
     if has_one_of(rows, wide(test), v) {
         at
@@ -77,28 +77,21 @@ fn write_pair(
 }
 
 // One trial cell against a batch of test cells.
-fn write_row(
-    rows: &[u32],
-    none: u32,
-    tests: &[u32],
-    trial: u32,
-    work: &mut [u32],
-    at: usize,
-) -> usize
-    requires padded { Padded none rows.now }
-    requires cells { Cells rows.now tests.now }
-    requires trial_in_bounds { 4 * trial + 4 ≤ length rows.now }
-    requires room { Room records work.old at (distant_row none rows.now tests.now trial) }
+fn write_row(rows: Rows<'_>, tests: &[u32], trial: u32, work: &mut [u32], at: usize) -> usize
+    requires padded { Padded rows.none rows.rows.now }
+    requires cells { Cells rows.rows.now tests.now }
+    requires trial_in_bounds { 4 * trial + 4 ≤ length rows.rows.now }
+    requires room { Room records work.old at (distant_row rows.none rows.rows.now tests.now trial) }
     ensures { Wrote records work.old work.new at result
-        (distant_row none rows.now tests.now trial) }
+        (distant_row rows.entry.none rows.entry.rows.now tests.now trial) }
 {
     let cell = wide(trial);
     let corner = 4 * cell;
     let v = Vertices {
-        first: rows[corner],
-        second: rows[corner + 1],
-        third: rows[corner + 2],
-        fourth: fourth_or_first(rows, none, cell),
+        first: rows.rows[corner],
+        second: rows.rows[corner + 1],
+        third: rows.rows[corner + 2],
+        fourth: rows.fourth_or_first(cell),
     };
     let mut next = at;
     for &test in tests {
@@ -108,32 +101,24 @@ fn write_row(
 }
 
 // A batch of trial cells against a batch of test cells.
-fn write_batch(
-    rows: &[u32],
-    none: u32,
-    tests: &[u32],
-    trials: &[u32],
-    work: &mut [u32],
-    at: usize,
-) -> usize
-    requires padded { Padded none rows.now }
-    requires cells { Cells rows.now tests.now }
-    requires cells_2 { Cells rows.now trials.now }
-    requires room { Room records work.old at (distant_batch (share none rows.now) tests.now trials.now) }
+fn write_batch(rows: Rows<'_>, tests: &[u32], trials: &[u32], work: &mut [u32], at: usize) -> usize
+    requires padded { Padded rows.none rows.rows.now }
+    requires cells { Cells rows.rows.now tests.now }
+    requires cells_2 { Cells rows.rows.now trials.now }
+    requires room { Room records work.old at (distant_batch (share rows.none rows.rows.now) tests.now trials.now) }
     ensures { Wrote records work.old work.new at result
-        (distant_batch (share none rows.now) tests.now trials.now) }
+        (distant_batch (share rows.entry.none rows.entry.rows.now) tests.now trials.now) }
 {
     let mut next = at;
     for &trial in trials {
-        next = write_row(rows, none, tests, trial, work, next);
+        next = write_row(rows, tests, trial, work, next);
     }
     next
 }
 
 // Each batch of the test cells of a colour against each batch of the trial cells of a colour.
 fn write_colours(
-    rows: &[u32],
-    none: u32,
+    rows: Rows<'_>,
     batch: usize,
     tests: &[u32],
     trials: &[u32],
@@ -141,17 +126,17 @@ fn write_colours(
     at: usize,
 ) -> usize
     requires batch_nonzero { (0 < batch) × (batch ≤ most_batch) }
-    requires padded { Padded none rows.now }
-    requires cells { Cells rows.now tests.now }
-    requires cells_2 { Cells rows.now trials.now }
-    requires room { Room records work.old at (distant_colours (share none rows.now) batch tests.now trials.now) }
+    requires padded { Padded rows.none rows.rows.now }
+    requires cells { Cells rows.rows.now tests.now }
+    requires cells_2 { Cells rows.rows.now trials.now }
+    requires room { Room records work.old at (distant_colours (share rows.none rows.rows.now) batch tests.now trials.now) }
     ensures { Wrote records work.old work.new at result
-        (distant_colours (share none rows.now) batch tests.now trials.now) }
+        (distant_colours (share rows.entry.none rows.entry.rows.now) batch tests.now trials.now) }
 {
     let mut next = at;
     for test_part in tests.chunks(batch) {
         for trial_part in trials.chunks(batch) {
-            next = write_batch(rows, none, test_part, trial_part, work, next);
+            next = write_batch(rows, test_part, trial_part, work, next);
         }
     }
     next
@@ -159,89 +144,69 @@ fn write_colours(
 
 // Each colour of the test cells of a kind, 0 for triangles and 1 for quads, against each colour of the trial cells of a kind.
 fn write_kinds(
-    rows: &[u32],
-    none: u32,
+    rows: Rows<'_>,
     batch: usize,
-    test_order: &[u32],
-    test_ends: &[usize],
+    tests: Groups<'_>,
     test_kind: usize,
-    trial_order: &[u32],
-    trial_ends: &[usize],
+    trials: Groups<'_>,
     trial_kind: usize,
     work: &mut [u32],
     at: usize,
 ) -> usize
     requires batch_nonzero { (0 < batch) × (batch ≤ most_batch) × (test_kind < 2) × (trial_kind < 2) }
-    requires padded { Padded none rows.now }
-    requires cut { Cut rows.now test_order.now test_ends.now }
-    requires cut_2 { Cut rows.now trial_order.now trial_ends.now }
+    requires padded { Padded rows.none rows.rows.now }
+    requires cut { Cut rows.rows.now tests.order.now tests.ends.now }
+    requires cut_2 { Cut rows.rows.now trials.order.now trials.ends.now }
     requires room { Room records work.old at
-        (distant_tests none rows.now batch test_order.now test_ends.now trial_order.now trial_ends.now test_kind trial_kind) }
+        (distant_tests rows.none rows.rows.now batch tests.order.now tests.ends.now trials.order.now trials.ends.now test_kind trial_kind) }
     ensures { Wrote records work.old work.new at result
-        (distant_tests none rows.now batch test_order.now test_ends.now trial_order.now
-        trial_ends.now test_kind trial_kind) }
+        (distant_tests rows.entry.none rows.entry.rows.now batch tests.entry.order.now tests.entry.ends.now trials.entry.order.now trials.entry.ends.now test_kind trial_kind) }
 {
-    let test_colours = test_ends.len() / 2;
-    let trial_colours = trial_ends.len() / 2;
+    let test_colours = tests.ends.len() / 2;
+    let trial_colours = trials.ends.len() / 2;
     let mut next = at;
     for c in 0..test_colours {
-        let tests = part_of(test_order, test_ends, test_kind * test_colours + c);
+        let test_cells = tests.group(test_kind * test_colours + c);
         for d in 0..trial_colours {
-            let trials = part_of(trial_order, trial_ends, trial_kind * trial_colours + d);
-            next = write_colours(rows, none, batch, tests, trials, work, next);
+            let trial_cells = trials.group(trial_kind * trial_colours + d);
+            next = write_colours(rows, batch, test_cells, trial_cells, work, next);
         }
     }
     next
 }
 
 // Whether there are cells of a kind.
-fn has_cells(ends: &[usize], kind: usize) -> bool
+fn has_cells(groups: Groups<'_>, kind: usize) -> bool
     requires { kind < 2 }
-    ensures { result ≡ has_cells ends.now kind }
+    ensures { result ≡ has_cells groups.entry.ends.now kind }
 {
-    let n = ends.len() / 2;
+    let n = groups.ends.len() / 2;
     let first = kind * n;
-    start_of(ends, first) < start_of(ends, first + n)
+    groups.start(first) < groups.start(first + n)
 }
 
 // All distant pairs, from the front of the work list on: how many there are. Where there are no cells of one of two kinds, their groups are not looked at.
 pub fn write_distant(
-    rows: &[u32],
-    none: u32,
+    rows: Rows<'_>,
     batch: usize,
-    test_order: &[u32],
-    test_ends: &[usize],
-    trial_order: &[u32],
-    trial_ends: &[usize],
+    tests: Groups<'_>,
+    trials: Groups<'_>,
     work: &mut [u32],
 ) -> usize
     requires batch_nonzero { (0 < batch) × (batch ≤ most_batch) }
-    requires padded { Padded none rows.now }
-    requires cut { Cut rows.now test_order.now test_ends.now }
-    requires cut_2 { Cut rows.now trial_order.now trial_ends.now }
+    requires padded { Padded rows.none rows.rows.now }
+    requires cut { Cut rows.rows.now tests.order.now tests.ends.now }
+    requires cut_2 { Cut rows.rows.now trials.order.now trials.ends.now }
     requires room { Room records work.old 0
-        (distant_parts none rows.now batch test_order.now test_ends.now trial_order.now trial_ends.now) }
+        (distant_parts rows.none rows.rows.now batch tests.order.now tests.ends.now trials.order.now trials.ends.now) }
     ensures { Wrote records work.old work.new 0 result
-        (distant_parts none rows.now batch test_order.now test_ends.now trial_order.now
-        trial_ends.now) }
+        (distant_parts rows.entry.none rows.entry.rows.now batch tests.entry.order.now tests.entry.ends.now trials.entry.order.now trials.entry.ends.now) }
 {
     let mut next = 0;
     for n in 0..2 {
         for k in 0..2 {
-            if has_cells(test_ends, n) & has_cells(trial_ends, k) {
-                next = write_kinds(
-                    rows,
-                    none,
-                    batch,
-                    test_order,
-                    test_ends,
-                    n,
-                    trial_order,
-                    trial_ends,
-                    k,
-                    work,
-                    next,
-                );
+            if has_cells(tests, n) & has_cells(trials, k) {
+                next = write_kinds(rows, batch, tests, n, trials, k, work, next);
             }
         }
     }

@@ -6,17 +6,17 @@ use Rattle.distant_pairs.proofs.Facts.{kind_first}
 use Rattle.distant_pairs.proofs.has_cells.Goals as goal
 
 pub overflow_mul-first : goal.overflow_mul-first
-overflow_mul-first c = omega (arith, kind_first c.args.kind (length c.args.ends.now) c.requires)
+overflow_mul-first c = omega (arith, kind_first c.args.kind (length c.args.groups.ends.now) c.requires)
 
-pub start_of-requires : goal.start_of-requires
-start_of-requires c = omega (arith, kind_first c.args.kind (length c.args.ends.now) c.requires)
+pub start-requires : goal.start-requires
+start-requires c = omega (arith, kind_first c.args.kind (length c.args.groups.ends.now) c.requires)
 
 pub overflow_add-first : goal.overflow_add-first
-overflow_add-first c = omega (arith, kind_first c.args.kind (length c.args.ends.now) c.requires)
+overflow_add-first c = omega (arith, kind_first c.args.kind (length c.args.groups.ends.now) c.requires)
 
-pub start_of-requires-2 : goal.start_of-requires-2
-start_of-requires-2 c = omega (arith, kind_first c.args.kind (length c.args.ends.now) c.requires)
+pub start-requires-2 : goal.start-requires-2
+start-requires-2 c = omega (arith, kind_first c.args.kind (length c.args.groups.ends.now) c.requires)
 
 pub returns : goal.returns
 unfolding has_cells
-returns c = rw (c.start_of.ensures, c.start_of-2.ensures)
+returns c = rw (c.start.ensures, c.start-2.ensures)

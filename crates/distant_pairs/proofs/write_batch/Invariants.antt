@@ -6,4 +6,4 @@ use Rattle.distant_pairs.specs.Distant.{distant_row}
 use Rattle.distant_pairs.proofs.write_batch.Given as goal
 
 abbrev pub invariant-loop-trial : goal.invariant-loop-trial
-invariant-loop-trial l = Each records (λ j. distant_row l.none l.rows l.tests j) l.trials l.initial.work l.work l.at l.next (length l.trials) l.trial-index
+invariant-loop-trial l = Each records (λ j. distant_row l.rows.none l.rows.rows.now l.tests j) l.trials l.initial.work l.work l.at l.next (length l.trials) l.trial-index

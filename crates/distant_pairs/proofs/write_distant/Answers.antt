@@ -25,7 +25,7 @@ loop-k-preserved c =
       | else-has_cells w ↦
           rw (w.work-is, w.next-is)
           (turns_turn c.loop-k.invariant c.loop-k-test.true
-          (rw (no_cells_of c.args.none c.args.rows.now c.args.batch c.args.test_order.now c.args.test_ends.now c.args.trial_order.now c.args.trial_ends.now c.loop-n.n c.loop-k.k c.requires.cut c.requires.cut_2 c.loop-n-test.true c.loop-k-test.true c.has_cells.ensures c.has_cells-in-loop-k.ensures w.if-has_cells.false) (wrote_none _ _)))
+          (rw (no_cells_of c.args.rows.none c.args.rows.rows.now c.args.batch c.args.tests.order.now c.args.tests.ends.now c.args.trials.order.now c.args.trials.ends.now c.loop-n.n c.loop-k.k c.requires.cut c.requires.cut_2 c.loop-n-test.true c.loop-k-test.true c.has_cells.ensures c.has_cells-in-loop-k.ensures w.if-has_cells.false) (wrote_none _ _)))
     ]
 
 pub loop-n-preserved : goal.loop-n-preserved

@@ -6,8 +6,8 @@ use Rattle.distant_pairs.proofs.write_distant.Given as goal
 
 abbrev pub invariant-loop-n : goal.invariant-loop-n
 invariant-loop-n l =
-    Turns records (λ n'. distant_kind l.none l.rows l.batch l.test_order l.test_ends l.trial_order l.trial_ends n') 2 l.initial.work l.work 0 l.next l.n
+    Turns records (λ n'. distant_kind l.rows.none l.rows.rows.now l.batch l.tests.order.now l.tests.ends.now l.trials.order.now l.trials.ends.now n') 2 l.initial.work l.work 0 l.next l.n
 
 abbrev pub invariant-loop-k : goal.invariant-loop-k
 invariant-loop-k l =
-    Turns records (λ k'. distant_tests l.none l.rows l.batch l.test_order l.test_ends l.trial_order l.trial_ends l.n k') 2 l.initial.work l.work l.initial.next l.next l.k
+    Turns records (λ k'. distant_tests l.rows.none l.rows.rows.now l.batch l.tests.order.now l.tests.ends.now l.trials.order.now l.trials.ends.now l.n k') 2 l.initial.work l.work l.initial.next l.next l.k

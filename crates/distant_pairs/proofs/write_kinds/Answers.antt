@@ -9,10 +9,10 @@ use Rattle.distant_pairs.proofs.write_kinds.Goals as goal
 use Rattle.distant_pairs.proofs.write_kinds.Goals.{In-loop-c, In-loop-d}
 
 -- a turn's group is one of the groups
-group : (c : In-loop-c) → c.args.test_kind * half c.args.test_ends.now + c.loop-c.c < length c.args.test_ends.now
+group : (c : In-loop-c) → c.args.test_kind * half c.args.tests.ends.now + c.loop-c.c < length c.args.tests.ends.now
 group c = kind_group _ _ _ c.requires.batch_nonzero.2 c.loop-c-test.true
 
-group_2 : (c : In-loop-d) → c.args.trial_kind * half c.args.trial_ends.now + c.loop-d.d < length c.args.trial_ends.now
+group_2 : (c : In-loop-d) → c.args.trial_kind * half c.args.trials.ends.now + c.loop-d.d < length c.args.trials.ends.now
 group_2 c = kind_group _ _ _ c.requires.batch_nonzero.3 c.loop-d-test.true
 
 pub loop-c-init : goal.loop-c-init
@@ -22,22 +22,22 @@ pub loop-d-init : goal.loop-d-init
 loop-d-init c = turns_start _ _ _ _
 
 pub write_colours-next-requires-clause-cells : goal.write_colours-next-requires-clause-cells
-write_colours-next-requires-clause-cells c = rw c.part_of-tests.ensures (c.requires.cut.cells _ (group (goal.at.write_colours-next-requires-clause-cells c).In-loop-c))
+write_colours-next-requires-clause-cells c = rw c.group-test_cells.ensures (c.requires.cut.cells _ (group (goal.at.write_colours-next-requires-clause-cells c).In-loop-c))
 
 pub write_colours-next-requires-clause-room : goal.write_colours-next-requires-clause-room
 unfolding distant_tests distant_rest
 write_colours-next-requires-clause-room c =
-    rw c.part_of-trials.ensures
+    rw c.group-trial_cells.ensures
     (turns_room c.loop-d.invariant c.loop-d-test.true
-    (rw c.part_of-tests.ensures (turns_room c.loop-c.invariant c.loop-c-test.true c.requires.room)))
+    (rw c.group-test_cells.ensures (turns_room c.loop-c.invariant c.loop-c-test.true c.requires.room)))
 
 pub loop-d-preserved : goal.loop-d-preserved
-loop-d-preserved c = turns_turn c.loop-d.invariant c.loop-d-test.true (rw c.part_of-trials.ensures at c.write_colours-next.ensures)
+loop-d-preserved c = turns_turn c.loop-d.invariant c.loop-d-test.true (rw c.group-trial_cells.ensures at c.write_colours-next.ensures)
 
 pub loop-c-preserved : goal.loop-c-preserved
 unfolding distant_rest
 loop-c-preserved c =
-    turns_turn c.loop-c.invariant c.loop-c-test.true (rw (← c.part_of-tests.ensures) (turns_done c.loop-d.invariant c.loop-d-test.false))
+    turns_turn c.loop-c.invariant c.loop-c-test.true (rw (← c.group-test_cells.ensures) (turns_done c.loop-d.invariant c.loop-d-test.false))
 
 pub returns : goal.returns
 unfolding distant_tests

@@ -10,8 +10,8 @@ use Rattle.distant_pairs.proofs.write_kinds.Given as goal
 
 abbrev pub invariant-loop-c : goal.invariant-loop-c
 invariant-loop-c l =
-    Turns records (λ c'. distant_rest l.none l.rows l.batch (part l.test_order l.test_ends (l.test_kind * half l.test_ends + c')) l.trial_order l.trial_ends l.trial_kind) (half l.test_ends) l.initial.work l.work l.at l.next l.c
+    Turns records (λ c'. distant_rest l.rows.none l.rows.rows.now l.batch (part l.tests.order.now l.tests.ends.now (l.test_kind * half l.tests.ends.now + c')) l.trials.order.now l.trials.ends.now l.trial_kind) (half l.tests.ends.now) l.initial.work l.work l.at l.next l.c
 
 abbrev pub invariant-loop-d : goal.invariant-loop-d
 invariant-loop-d l =
-    Turns records (λ d'. distant_colours (share l.none l.rows) l.batch l.tests (part l.trial_order l.trial_ends (l.trial_kind * half l.trial_ends + d'))) (half l.trial_ends) l.initial.work l.work l.initial.next l.next l.d
+    Turns records (λ d'. distant_colours (share l.rows.none l.rows.rows.now) l.batch l.test_cells (part l.trials.order.now l.trials.ends.now (l.trial_kind * half l.trials.ends.now + d'))) (half l.trials.ends.now) l.initial.work l.work l.initial.next l.next l.d

@@ -7,4 +7,4 @@ use Rattle.cell_pairs.specs.WorkList.{distant_pair}
 use Rattle.distant_pairs.proofs.write_row.Given as goal
 
 abbrev pub invariant-loop-test : goal.invariant-loop-test
-invariant-loop-test l = Each records (λ i. distant_pair (share l.none l.rows) i l.trial) l.tests l.initial.work l.work l.at l.next (length l.tests) l.test-index
+invariant-loop-test l = Each records (λ i. distant_pair (share l.rows.none l.rows.rows.now) i l.trial) l.tests l.initial.work l.work l.at l.next (length l.tests) l.test-index
