@@ -8,8 +8,11 @@ use Rattle.std.proofs.Math.Path.{refl, sym, ap, subst}
 use Rattle.std.proofs.Math.Logic.{⊎_elim}
 use mathlib.Core.List.{List, [], ◌∷◌, ◌++◌, flat_map}
 use Rattle.std.proofs.Math.ListN.{length, get_or, set, length-append, get_or-append, length-set}
-use Rattle.std.proofs.lemmas.List.{get_or-replicate, length-replicate, get_or_at}
+use Rattle.std.proofs.lemmas.List.{get_or-replicate, length-replicate, replicate_more, get_or_at}
 use Rattle.std.proofs.lemmas.List.Edits.{sets}
+use Rattle.std.proofs.Common.{nat_cmp}
+use Rattle.std.specs.Ordering.{ord_max}
+use Rattle.std.proofs.lemmas.Bool.Decides.{nat_tests}
 use Rattle.std.proofs.Math.Dec.{eqb, ltb}
 use borrow.Author.Tests.{eq-eqb, ne_eqb, not-true, lt-ltb, le-ltb, ltb-true}
 use Rattle.lists.specs.Bool.{◌and◌, ◌or◌, true≢false, same_test, and_left, and_right, and_both, and_no_left, or_right}
@@ -19,14 +22,13 @@ use Rattle.lists.specs.Stores.{sets_more, sets_all, get_d_front}
 use Rattle.grid.specs.Cells.{share_in}
 use Rattle.grid.specs.CellsFacts.{Shaped, has_place, has_at, share_which, share_at}
 use Rattle.grid.specs.Rows.{rows_of, entity, cell_in, has, share}
-use Rattle.grid.specs.RowsFacts.{Padded, cell_entity, cell_in_row, cell_number, has_row, length_rows, rows_below, rows_padded, share_rows}
+use Rattle.grid.specs.RowsFacts.{Padded, cell_entity, cell_in_row, cell_number, has_row, rows_below, rows_padded, share_rows}
 use Rattle.grid.specs.Mesh.{most_cells, most_edges, cells_of, kinds_present}
-use Rattle.grid.specs.declared.Sizes.{Sizes}
 use Rattle.cells_by_key.specs.Groups.{cells_with, Below}
 use Rattle.cells_by_key.specs.GroupsFacts.{in_group, group_place}
 use Rattle.function.specs.declared.Element.{Element}
 use Rattle.function.specs.Elements.{Space}
-use Rattle.function.specs.Colours.{taken, smallest, colours_to, leading, sharing, colour_list, colour_count, Colourable}
+use Rattle.function.specs.Colours.{taken, smallest, colours_to, leading, sharing, colour_list, colour_count}
 
 -- ---- the colours, one by one
 
@@ -91,6 +93,11 @@ unfolding smallest taken
 smallest_alone cs i =
     least_is i (λ c. not (taken eqb cs i c)) 0 (omega arith) (λ k b. absurd (not-suc-le-zero b))
     (λ l. ap not (some_none i (λ j. eqb i j and eqb (get_or cs j 0) 0) (λ j b. and_no_left (eqb i j) (eqb (get_or cs j 0) 0) (ne_eqb i j (λ e. lt_irrefl i (omega arith))))))
+
+pub colours_alone : (n : ℕ) → colours_to eqb n ≡ replicate n 0
+unfolding colours_to
+colours_alone zero = refl
+colours_alone (suc n) = rw (smallest_alone (colours_to eqb n) n, colours_alone n) (replicate_more n 0 ∙ rw add-one)
 
 -- ---- marks: cell i marks a colour with i + 1
 
@@ -255,14 +262,6 @@ pub record Listed (top : ℕ) (kinds list colours : List ℕ) : Type 0 where
   pub below : Below list top
   pub places : length colours ≡ length kinds
 
--- by the vertices, and by the edges
-module _ {s : Sizes} {kinds vertices edges colours : List ℕ} (h : Colourable s kinds vertices edges colours) where
-  pub listed_vertices : Listed s.vertices kinds vertices colours
-  listed_vertices = record { shaped = h.vertex_list_holds; groups = omega (arith, h.few_vertices_holds); below = h.vertices_below; places = h.places ∙ sym h.kind_list }
-
-  pub listed_edges : Listed s.edges kinds edges colours
-  listed_edges = record { shaped = h.edge_list_holds; groups = h.few_edges_holds; below = h.edges_below; places = h.places ∙ sym h.kind_list }
-
 -- what is held before cell i: l with the colours of the first i cells stored
 pub record Filled (r : ℕ → ℕ → Bool) (l cs : List ℕ) (i : ℕ) : Type 0 where
   pub fits : i ≤ length l
@@ -308,9 +307,6 @@ colours_ext r r' (suc n) h =
 
 -- by the rows of one list
 module _ {top : ℕ} {ks l colours : List ℕ} (h : Listed top ks l colours) {rows : List ℕ} (e : rows ≡ rows_of top ks l (length ks)) where
-  pub listed_length : length rows ≡ 4 * length ks
-  listed_length = ap length e ∙ length_rows top h.shaped
-
   pub listed_below : {n : ℕ} → n ≡ top + 1 → Below rows n
   listed_below q = rw (e, q) (record { below = rows_below top h.shaped h.below.below })
 
@@ -367,6 +363,9 @@ count_snoc [] c = omega arith
 count_snoc (d ∷ cs) c = ap (max (suc d)) (count_snoc cs c) ∙ sym (max_assoc (suc d) (colour_count cs) (c + 1))
 
 -- what is held before place i: the number of colours of the places passed
+pub larger_of : (a b : ℕ) → ord_max nat_cmp a b ≡ max a b
+larger_of a b = grind (arith, nat_tests)
+
 pub record Counted (cs : List ℕ) (i n : ℕ) : Type 0 where
   pub fits : i ≤ length cs
   pub count : n ≡ colour_count (take i cs)

@@ -1,6 +1,6 @@
 // The colours of the cells: cells rise, and each takes the smallest colour that no earlier cell sharing an entity has. The earlier cells that share
 // one are found among the cells of each of its entities.
-ghost use Rattle.std.specs.Prelude.{◌≡◌, not, ℕ, ◌+◌, ◌*◌, ◌<◌, ◌≤◌, max, length, get_or, eqb};
+ghost use Rattle.std.specs.Prelude.{◌≡◌, not, ℕ, ◌+◌, ◌*◌, ◌<◌, ◌≤◌, length, get_or, eqb};
 ghost use Rattle.lists.specs.Bounded.{least};
 ghost use Rattle.grid.specs.Cells.{share_in};
 ghost use Rattle.grid.specs.Rows.{share};
@@ -9,10 +9,11 @@ ghost use Rattle.grid.specs.Mesh.{most_cells, kinds_present};
 ghost use Rattle.cells_by_key.specs.Groups.{ByEntity};
 ghost use Rattle.function.specs.Colours.{taken, smallest, colours_to, colour_list, colour_count, Colourable, Scratch};
 ghost use Rattle.function.specs.ColoursFacts.{colour_to, Marked, Marks, Earlier, Listed};
+ghost use Rattle.function.specs.Lent.{space_lent};
 
 use super::Elements;
-use cells_by_key::{by_key, clear, part_of};
-use grid::{MOST_CELLS, Sizes, cell_of, count_kind, write_rows};
+use cells_by_key::{Groups, by_key};
+use grid::{MOST_CELLS, Mesh, Rows, count_kind, write_rows};
 use numbers::wide;
 
 // Marks the colours of those cells of a list that are below i. A mark of cell i is i + 1.
@@ -21,8 +22,8 @@ fn mark_colours(cells: &[u32], colours: &[u32], i: usize, marks: &mut [usize; MO
     requires marks_len { length marks.old ≡ most_cells }
     ensures { Marked i (colour_to cells.now colours.now i (length cells.now)) marks.old marks.new }
 {
-    for k in 0..cells.len() {
-        let j = wide(cells[k]);
+    for &cell in cells {
+        let j = wide(cell);
         if j < i {
             let at = wide(colours[j]);
             marks[at] = i + 1;
@@ -30,26 +31,22 @@ fn mark_colours(cells: &[u32], colours: &[u32], i: usize, marks: &mut [usize; MO
     }
 }
 
-// Marks the colours of the cells before cell i that share an entity with it.
+// Marks the colours of the cells before cell i that share an entity with it. The groups are of the cells by entity.
 fn mark_sharing(
-    rows: &[u32],
-    none: u32,
-    order: &[u32],
-    ends: &[usize],
+    rows: Rows,
+    groups: Groups,
     colours: &[u32],
     i: usize,
     marks: &mut [usize; MOST_CELLS],
 )
-    requires by_entity { ByEntity rows.now order.now ends.now × Padded none rows.now }
-    requires i_in_bounds { 4 * i + 4 ≤ length rows.now }
+    requires by_entity { ByEntity rows.rows.now groups.order.now groups.ends.now × Padded rows.none rows.rows.now }
+    requires i_in_bounds { 4 * i + 4 ≤ length rows.rows.now }
     requires earlier { Earlier colours.now i }
     requires marks_len { length marks.old ≡ most_cells }
-    ensures { Marked i (taken (share none rows.now) colours.now i) marks.old marks.new }
+    ensures { Marked i (taken (share rows.entry.none rows.entry.rows.now) colours.now i) marks.old marks.new }
 {
-    let cell = cell_of(rows, none, i);
-    for p in 0..cell.len() {
-        let x = wide(cell[p]);
-        mark_colours(part_of(order, ends, x), colours, i, marks);
+    for &x in rows.cell(i) {
+        mark_colours(groups.group(wide(x)), colours, i, marks);
     }
 }
 
@@ -58,49 +55,38 @@ fn first_unmarked(marks: &[usize; MOST_CELLS], i: usize) -> usize
     requires { i < most_cells }
     ensures { result ≡ least i (λ c. not (eqb (get_or marks.now c 0) (i + 1))) }
 {
-    let mut k = 0;
-    while k < i {
-        if marks[k] != i + 1 {
-            return k;
-        }
-        k += 1;
-    }
-    k
+    (0..i).find(|&c| marks[c] != i + 1).unwrap_or(i)
 }
 
 // The colour of cell i, from the colours of the cells before it.
 fn next_colour(
-    rows: &[u32],
-    none: u32,
-    order: &[u32],
-    ends: &[usize],
+    rows: Rows,
+    groups: Groups,
     colours: &[u32],
     i: usize,
     marks: &mut [usize; MOST_CELLS],
 ) -> usize
-    requires by_entity { ByEntity rows.now order.now ends.now × Padded none rows.now }
-    requires i_in_bounds { 4 * i + 4 ≤ length rows.now }
+    requires by_entity { ByEntity rows.rows.now groups.order.now groups.ends.now × Padded rows.none rows.rows.now }
+    requires i_in_bounds { 4 * i + 4 ≤ length rows.rows.now }
     requires earlier { Earlier colours.now i }
     requires marks { Marks i marks.old }
-    ensures value { result ≡ smallest (share none rows.now) colours.now i }
+    ensures value { result ≡ smallest (share rows.entry.none rows.entry.rows.now) colours.now i }
     ensures marks_2 { Marks (i + 1) marks.new }
 {
-    mark_sharing(rows, none, order, ends, colours, i, marks);
+    mark_sharing(rows, groups, colours, i, marks);
     first_unmarked(marks, i)
 }
 
-// The colours of all cells, by their rows. `order` holds the cells of entity 0, then those of entity 1 and so on, and `ends` where each entity's end.
-fn colour_grouped(rows: &[u32], none: u32, order: &[u32], ends: &[usize], colours: &mut [u32])
-    requires by_entity { ByEntity rows.now order.now ends.now × Padded none rows.now }
-    requires rows_len { (length rows.now ≡ 4 * length colours.old) × (length colours.old ≤ most_cells) }
-    ensures { colours.new ≡ colours_to (share none rows.now) (length colours.old) }
+// The colours of all cells, by their rows and the cells by entity.
+fn colour_grouped(rows: Rows, groups: Groups, colours: &mut [u32])
+    requires by_entity { ByEntity rows.rows.now groups.order.now groups.ends.now × Padded rows.none rows.rows.now }
+    requires rows_len { (length rows.rows.now ≡ 4 * length colours.old) × (length colours.old ≤ most_cells) }
+    ensures { colours.new ≡ colours_to (share rows.entry.none rows.entry.rows.now) (length colours.old) }
 {
     let mut marks = [0usize; MOST_CELLS];
-    let mut i = 0;
-    while i < colours.len() {
-        let colour = next_colour(rows, none, order, ends, colours, i, &mut marks);
+    for i in 0..colours.len() {
+        let colour = next_colour(rows, groups, colours, i, &mut marks);
         colours[i] = colour as u32;
-        i += 1;
     }
 }
 
@@ -120,9 +106,9 @@ fn colour_sorted(
     ensures { colours.new ≡ colours_to (share_in kinds.now list.now) (length colours.old) }
 {
     write_rows(kinds, list, top, rows);
-    clear(ends);
+    ends.fill(0);
     by_key(rows, 4, ends, order);
-    colour_grouped(rows, top, order, ends, colours);
+    colour_grouped(Rows { rows, none: top }, Groups { order, ends }, colours);
 }
 
 // The same, by way of fronts of three lists.
@@ -153,15 +139,10 @@ fn colour_cells(
 }
 
 // All colours 0: no two cells share.
-fn colour_alone(cells: usize, colours: &mut [u32])
-    requires { length colours.old ≡ cells }
-    ensures { colours.new ≡ colours_to eqb cells }
+fn colour_alone(colours: &mut [u32])
+    ensures { colours.new ≡ colours_to eqb (length colours.old) }
 {
-    let mut i = 0;
-    while i < cells {
-        colours[i] = 0;
-        i += 1;
-    }
+    colours.fill(0);
 }
 
 // The first kind present: triangles first.
@@ -171,44 +152,50 @@ fn leading_kind(kinds: &[u8]) -> u8
 {
     if 0 < count_kind(kinds, 3) {
         3
+    } else if 0 < count_kind(kinds, 4) {
+        4
     } else {
-        if 0 < count_kind(kinds, 4) { 4 } else { 3 }
+        3
     }
 }
 
 // By the entities of dimension 0 if a > 0, else 1 if b > 0, else 2, in the element of the first kind present.
 fn colour_by_dimension(
-    sizes: Sizes,
-    kinds: &[u8],
-    vertices: &[u32],
-    edges: &[u32],
+    mesh: Mesh,
     elements: Elements,
     rows: &mut [u32],
     order: &mut [u32],
     ends: &mut [usize],
     colours: &mut [u32],
 )
-    requires colourable { Colourable sizes kinds.now vertices.now edges.now colours.old }
+    requires colourable { Colourable mesh.sizes mesh.kinds.now mesh.cell_vertices.now mesh.cell_edges.now colours.old }
     requires scratch { Scratch rows.old order.old ends.old }
-    ensures { colours.new ≡ colour_list (record { kinds = kinds.entry.now; cell_vertices = vertices.now; cell_edges = edges.now; elements = elements }) sizes.cells }
+    ensures { colours.new ≡ colour_list (space_lent mesh.entry elements) mesh.entry.sizes.cells }
 {
-    let element = elements.of(leading_kind(kinds));
+    let element = elements.of(leading_kind(mesh.kinds));
     if 0 < element.a {
-        colour_cells(kinds, vertices, sizes.vertices, rows, order, ends, colours);
+        colour_cells(
+            mesh.kinds,
+            mesh.cell_vertices,
+            mesh.sizes.vertices,
+            rows,
+            order,
+            ends,
+            colours,
+        );
+    } else if 0 < element.b {
+        colour_cells(
+            mesh.kinds,
+            mesh.cell_edges,
+            mesh.sizes.edges,
+            rows,
+            order,
+            ends,
+            colours,
+        );
     } else {
-        if 0 < element.b {
-            colour_cells(kinds, edges, sizes.edges, rows, order, ends, colours);
-        } else {
-            colour_alone(wide(sizes.cells), colours);
-        }
+        colour_alone(colours);
     }
-}
-
-// The larger of the two.
-fn larger(x: u32, y: u32) -> u32
-    ensures { result ≡ max x y }
-{
-    if x < y { y } else { x }
 }
 
 // One more than the largest colour; 0 where there is none.
@@ -217,33 +204,26 @@ fn count_colours(colours: &[u32]) -> u32
     ensures { result ≡ colour_count colours.now }
 {
     let mut count = 0;
-    let mut i = 0;
-    while i < colours.len() {
-        count = larger(count, colours[i] + 1);
-        i += 1;
+    for &colour in colours {
+        count = count.max(colour + 1);
     }
     count
 }
 
 // Colours the cells, and hands back the number of colours. The cells are grouped in the lists rows, order and ends, whatever these hold.
 pub fn cell_colouring(
-    sizes: Sizes,
-    kinds: &[u8],
-    vertices: &[u32],
-    edges: &[u32],
+    mesh: Mesh,
     elements: Elements,
     rows: &mut [u32],
     order: &mut [u32],
     ends: &mut [usize],
     colours: &mut [u32],
 ) -> u32
-    requires colourable { Colourable sizes kinds.now vertices.now edges.now colours.old }
+    requires colourable { Colourable mesh.sizes mesh.kinds.now mesh.cell_vertices.now mesh.cell_edges.now colours.old }
     requires scratch { Scratch rows.old order.old ends.old }
-    ensures colours_after { colours.new ≡ colour_list (record { kinds = kinds.entry.now; cell_vertices = vertices.now; cell_edges = edges.now; elements = elements }) sizes.cells }
-    ensures value { result ≡ colour_count (colour_list (record { kinds = kinds.entry.now; cell_vertices = vertices.now; cell_edges = edges.now; elements = elements }) sizes.cells) }
+    ensures colours_after { colours.new ≡ colour_list (space_lent mesh.entry elements) mesh.entry.sizes.cells }
+    ensures value { result ≡ colour_count (colour_list (space_lent mesh.entry elements) mesh.entry.sizes.cells) }
 {
-    colour_by_dimension(
-        sizes, kinds, vertices, edges, elements, rows, order, ends, colours,
-    );
+    colour_by_dimension(mesh, elements, rows, order, ends, colours);
     count_colours(colours)
 }

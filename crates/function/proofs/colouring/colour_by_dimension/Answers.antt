@@ -1,21 +1,8 @@
 -- `function::colouring::colour_by_dimension` meets its contract: each way by the law of its dimension. Assumes nothing.
-use native.Mathlib.Omega.{arith}
-use mathlib.Core.Path.{sym, ap, ◌∙◌}
+use mathlib.Core.Path.{ap, ◌∙◌}
 use Rattle.function.specs.Elements.{element_of}
-use Rattle.function.specs.ColoursFacts.{by_vertices, by_edges, by_none, listed_vertices, listed_edges}
+use Rattle.function.specs.ColoursFacts.{by_vertices, by_edges, by_none}
 use Rattle.function.proofs.colouring.colour_by_dimension.Goals as goal
-
-pub leading_kind-requires : goal.leading_kind-requires
-leading_kind-requires c = omega (arith, c.requires.colourable.cells, c.requires.colourable.kind_list)
-
-pub colour_cells-requires : goal.colour_cells-requires
-colour_cells-requires c = record { listed = listed_vertices c.requires.colourable; scratch = c.requires.scratch }
-
-pub colour_cells-requires-then-element-gt0-2 : goal.colour_cells-requires-then-element-gt0-2
-colour_cells-requires-then-element-gt0-2 c = record { listed = listed_edges c.requires.colourable; scratch = c.requires.scratch }
-
-pub colour_alone-requires : goal.colour_alone-requires
-colour_alone-requires c = c.requires.colourable.places ∙ sym c.wide.ensures
 
 pub returns-then-element-gt0 : goal.returns-then-element-gt0
 returns-then-element-gt0 c = rw c.requires.colourable.places at c.colour_cells.ensures ∙ by_vertices _ _ (c.of-element.ensures ∙ ap (element_of c.args.elements) c.leading_kind.ensures) c.if-element-gt0.true
@@ -24,4 +11,4 @@ pub returns-then-element-gt0-2 : goal.returns-then-element-gt0-2
 returns-then-element-gt0-2 c = rw c.requires.colourable.places at c.colour_cells-then-element-gt0-2.ensures ∙ by_edges _ _ (c.of-element.ensures ∙ ap (element_of c.args.elements) c.leading_kind.ensures) c.if-element-gt0.false c.if-element-gt0-2.true
 
 pub returns-else-element-gt0-2 : goal.returns-else-element-gt0-2
-returns-else-element-gt0-2 c = rw c.wide.ensures at c.colour_alone.ensures ∙ by_none _ _ (c.of-element.ensures ∙ ap (element_of c.args.elements) c.leading_kind.ensures) c.if-element-gt0.false c.if-element-gt0-2.false
+returns-else-element-gt0-2 c = rw c.requires.colourable.places at c.colour_alone.ensures ∙ by_none _ _ (c.of-element.ensures ∙ ap (element_of c.args.elements) c.leading_kind.ensures) c.if-element-gt0.false c.if-element-gt0-2.false

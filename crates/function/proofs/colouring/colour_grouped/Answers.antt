@@ -8,18 +8,13 @@ use Rattle.function.proofs.colouring.colour_grouped.Goals as goal
 pub loop-i-init : goal.loop-i-init
 loop-i-init c = (filled_none _ _, marks_none)
 
-pub next_colour-colour-requires : goal.next_colour-colour-requires
-next_colour-colour-requires c =
+pub next_colour-colour-requires-clause-earlier : goal.next_colour-colour-requires-clause-earlier
+next_colour-colour-requires-clause-earlier c =
     let inv = c.loop-i.invariant in
     record {
-      by_entity = c.requires.by_entity;
-      i_in_bounds = omega (arith, c.requires.rows_len, inv.0.long);
-      earlier = record {
-        place = c.loop-i-test.true;
-        below = omega (arith, c.requires.rows_len, inv.0.long);
-        low = λ j b. omega (arith, front_le inv.0 j b, c.requires.rows_len, inv.0.long);
-      };
-      marks = inv.1;
+      place = omega arith;
+      below = omega (arith, c.requires.rows_len, inv.0.long);
+      low = λ j b. omega (arith, front_le inv.0 j b, c.requires.rows_len, inv.0.long);
     }
 
 pub overflow_cast-colours : goal.overflow_cast-colours
