@@ -2,17 +2,59 @@
 #![tactic(auto)]
 
 ghost use Rattle.function.specs.Elements.{most_dim};
-ghost use Rattle.std.specs.Prelude.{◌≡◌, ℕ, ◌*◌, ◌≤◌, length};
+ghost use Rattle.std.specs.Prelude.{◌≡◌, ℕ, ◌+◌, ◌*◌, ◌<◌, ◌≤◌, length};
 ghost use Rattle.lists.specs.Refusals.{refusal};
-ghost use Rattle.lent_numbers.specs.Lent.{most_touching_points, most_distant_points, touching, distant, jdets_above0, touching_lengths, touching_numbers, touching_checks, distant_lengths, distant_numbers, distant_checks};
+ghost use Rattle.refusals.specs.Numbers.{told};
+ghost use Rattle.numbers.specs.Ranges.{within};
+ghost use Rattle.integrands.specs.Values.{geometry_at};
+ghost use Rattle.lent_numbers.specs.Lent.{most_touching_points, most_distant_points, jdets_above0, touching_lengths, touching_numbers, touching_checks, distant_lengths, distant_numbers, distant_checks};
+ghost use Rattle.lent_numbers.specs.Forms.{touching_of, distant_of, test_of, trial_of, side_lengths, side_numbers};
 
-use integrands::Integrand;
+use integrands::{Integrand, Point};
 use numbers::all_finite;
+use refusals::Refusal;
+use table::Table;
 
 // The most points of a touching pair, and of each side of a distant pair.
 const MOST_TOUCHING_POINTS: usize = 2048;
 
 const MOST_DISTANT_POINTS: usize = 64;
+
+// What one side of a pair is lent: its points and their weights, the table of its basis functions and the geometry of its cell.
+#[derive(Clone, Copy)]
+pub struct Side<'a> {
+    pub points: usize,
+    pub weights: &'a [f64],
+    pub table: &'a [f64],
+    pub geometry: &'a [f64],
+}
+
+// What a touching pair is lent: one list of points for both cells.
+#[derive(Clone, Copy)]
+pub struct TouchingNumbers<'a> {
+    pub points: usize,
+    pub weights: &'a [f64],
+    pub test_table: &'a [f64],
+    pub trial_table: &'a [f64],
+    pub kernel: &'a [f64],
+    pub test_geometry: &'a [f64],
+    pub trial_geometry: &'a [f64],
+}
+
+// What a distant pair is lent: test points and trial points.
+#[derive(Clone, Copy)]
+pub struct DistantNumbers<'a> {
+    pub test: Side<'a>,
+    pub trial: Side<'a>,
+    pub kernel: &'a [f64],
+}
+
+// Check 9: a point count is in its range.
+fn count_right(points: usize, most: usize) -> bool
+    ensures { result ≡ within 1 most points }
+{
+    (1..=most).contains(&points)
+}
 
 // Whether each jdet is above 0. All are read, whatever the first is.
 fn jdets_above_0(s: &[f64], points: usize) -> bool
@@ -26,209 +68,145 @@ fn jdets_above_0(s: &[f64], points: usize) -> bool
     ok
 }
 
-// Check 10 of a touching pair.
-fn touching_lengths(
-    f: Integrand,
-    test_dim: usize,
-    trial_dim: usize,
-    points: usize,
-    weights: &[f64],
-    test_table: &[f64],
-    trial_table: &[f64],
-    kernel: &[f64],
-    test_geometry: &[f64],
-    trial_geometry: &[f64],
-) -> bool
-    requires { (test_dim ≤ most_dim) × (trial_dim ≤ most_dim) × (points ≤ most_touching_points) }
-    ensures { result ≡ touching_lengths f test_dim trial_dim (touching «points» «weights».now test_table.now trial_table.now «kernel».now test_geometry.now trial_geometry.now) }
-{
-    let rows = integrands::table_rows(f);
-    let width = integrands::kernel_width(f);
-    (weights.len() == points)
-        & (test_table.len() == rows * (points * test_dim))
-        & (trial_table.len() == rows * (points * trial_dim))
-        & (kernel.len() == width * points)
-        & (test_geometry.len() == 10 * points)
-        & (trial_geometry.len() == 10 * points)
-}
-
-// Check 11 of a touching pair.
-fn touching_numbers(
-    points: usize,
-    weights: &[f64],
-    test_table: &[f64],
-    trial_table: &[f64],
-    kernel: &[f64],
-    test_geometry: &[f64],
-    trial_geometry: &[f64],
-) -> bool
-    requires { (10 * points ≤ length test_geometry.now) × (10 * points ≤ length trial_geometry.now) }
-    ensures { (f : _) (m n : ℕ) → result ≡ touching_numbers f m n (touching «points» «weights».now test_table.now trial_table.now «kernel».now test_geometry.now trial_geometry.now) }
-{
-    all_finite(weights)
-        & all_finite(test_table)
-        & all_finite(trial_table)
-        & all_finite(kernel)
-        & all_finite(test_geometry)
-        & all_finite(trial_geometry)
-        & jdets_above_0(test_geometry, points)
-        & jdets_above_0(trial_geometry, points)
-}
-
-// Checks 9 to 11 of a touching pair: the number of the first that turns it down, or 0.
-pub fn touching_refusal(
-    f: Integrand,
-    test_dim: usize,
-    trial_dim: usize,
-    points: usize,
-    weights: &[f64],
-    test_table: &[f64],
-    trial_table: &[f64],
-    kernel: &[f64],
-    test_geometry: &[f64],
-    trial_geometry: &[f64],
-) -> u32
-    requires { (test_dim ≤ most_dim) × (trial_dim ≤ most_dim) }
-    ensures { result ≡ refusal (touching_checks f test_dim trial_dim (touching «points» «weights».now test_table.now trial_table.now «kernel».now test_geometry.now trial_geometry.now)) }
-{
-    if !((1 <= points) & (points <= MOST_TOUCHING_POINTS)) {
-        return 9;
-    }
-    if !touching_lengths(
-        f,
-        test_dim,
-        trial_dim,
-        points,
-        weights,
-        test_table,
-        trial_table,
-        kernel,
-        test_geometry,
-        trial_geometry,
-    ) {
-        return 10;
-    }
-    if !touching_numbers(
-        points,
-        weights,
-        test_table,
-        trial_table,
-        kernel,
-        test_geometry,
-        trial_geometry,
-    ) {
-        return 11;
-    }
-    0
-}
-
-// Check 10 of a distant pair.
-fn distant_lengths(
-    f: Integrand,
-    test_dim: usize,
-    trial_dim: usize,
-    test_points: usize,
-    trial_points: usize,
-    test_weights: &[f64],
-    trial_weights: &[f64],
-    test_table: &[f64],
-    trial_table: &[f64],
-    kernel: &[f64],
-    test_geometry: &[f64],
-    trial_geometry: &[f64],
-) -> bool
-    requires { (test_dim ≤ most_dim) × (trial_dim ≤ most_dim) × (test_points ≤ most_distant_points) × (trial_points ≤ most_distant_points) }
-    ensures { result ≡ distant_lengths f test_dim trial_dim (distant test_points trial_points test_weights.now trial_weights.now test_table.now trial_table.now «kernel».now test_geometry.now trial_geometry.now) }
-{
-    let rows = integrands::table_rows(f);
-    let width = integrands::kernel_width(f);
-    (test_weights.len() == test_points)
-        & (trial_weights.len() == trial_points)
-        & (test_table.len() == rows * (test_points * test_dim))
-        & (trial_table.len() == rows * (trial_points * trial_dim))
-        & (kernel.len() == width * (test_points * trial_points))
-        & (test_geometry.len() == 10 * test_points)
-        & (trial_geometry.len() == 10 * trial_points)
-}
-
-// Check 11 of a distant pair.
-fn distant_numbers(
-    test_points: usize,
-    trial_points: usize,
-    test_weights: &[f64],
-    trial_weights: &[f64],
-    test_table: &[f64],
-    trial_table: &[f64],
-    kernel: &[f64],
-    test_geometry: &[f64],
-    trial_geometry: &[f64],
-) -> bool
-    requires { (10 * test_points ≤ length test_geometry.now) × (10 * trial_points ≤ length trial_geometry.now) }
-    ensures { (f : _) (m n : ℕ) → result ≡ distant_numbers f m n (distant test_points trial_points test_weights.now trial_weights.now test_table.now trial_table.now «kernel».now test_geometry.now trial_geometry.now) }
-{
-    all_finite(test_weights)
-        & all_finite(trial_weights)
-        & all_finite(test_table)
-        & all_finite(trial_table)
-        & all_finite(kernel)
-        & all_finite(test_geometry)
-        & all_finite(trial_geometry)
-        & jdets_above_0(test_geometry, test_points)
-        & jdets_above_0(trial_geometry, trial_points)
-}
-
-// Checks 9 to 11 of a distant pair: the number of the first that turns it down, or 0.
-pub fn distant_refusal(
-    f: Integrand,
-    test_dim: usize,
-    trial_dim: usize,
-    test_points: usize,
-    trial_points: usize,
-    test_weights: &[f64],
-    trial_weights: &[f64],
-    test_table: &[f64],
-    trial_table: &[f64],
-    kernel: &[f64],
-    test_geometry: &[f64],
-    trial_geometry: &[f64],
-) -> u32
-    requires { (test_dim ≤ most_dim) × (trial_dim ≤ most_dim) }
-    ensures { result ≡ refusal (distant_checks f test_dim trial_dim (distant test_points trial_points test_weights.now trial_weights.now test_table.now trial_table.now «kernel».now test_geometry.now trial_geometry.now)) }
-{
-    if !((1 <= test_points)
-        & (test_points <= MOST_DISTANT_POINTS)
-        & ((1 <= trial_points) & (trial_points <= MOST_DISTANT_POINTS)))
+impl<'a> Side<'a> {
+    // What stands at a point, with so many table rows and basis functions.
+    pub fn at(self, rows: usize, dim: usize, point: usize) -> Point<'a>
+        requires { 10 * point + 10 ≤ length self.geometry.now }
+        ensures geometry { result.geometry ≡ geometry_at self.entry.geometry.now point }
+        ensures table { (result.table.values ≡ self.entry.table) × (result.table.rows ≡ rows) × (result.table.points ≡ self.entry.points) × (result.table.dim ≡ dim) × (result.table.point ≡ point) }
     {
-        return 9;
+        Point {
+            geometry: integrands::geometry_at(self.geometry, point),
+            table: Table::new(self.table, rows, self.points, dim, point),
+        }
     }
-    if !distant_lengths(
-        f,
-        test_dim,
-        trial_dim,
-        test_points,
-        trial_points,
-        test_weights,
-        trial_weights,
-        test_table,
-        trial_table,
-        kernel,
-        test_geometry,
-        trial_geometry,
-    ) {
-        return 10;
+
+    // Check 10 of a side.
+    fn lengths_right(self, rows: usize, dim: usize) -> bool
+        requires { (rows ≤ 3) × (dim ≤ most_dim) × (self.points ≤ most_touching_points) }
+        ensures { result ≡ side_lengths rows dim self.entry }
+    {
+        (self.weights.len() == self.points)
+            & (self.table.len() == rows * (self.points * dim))
+            & (self.geometry.len() == 10 * self.points)
     }
-    if !distant_numbers(
-        test_points,
-        trial_points,
-        test_weights,
-        trial_weights,
-        test_table,
-        trial_table,
-        kernel,
-        test_geometry,
-        trial_geometry,
-    ) {
-        return 11;
+
+    // Check 11 of a side's table and geometry.
+    fn numbers_right(self) -> bool
+        requires { 10 * self.points ≤ length self.geometry.now }
+        ensures { result ≡ side_numbers self.entry }
+    {
+        all_finite(self.table)
+            & all_finite(self.geometry)
+            & jdets_above_0(self.geometry, self.points)
     }
-    0
+}
+
+impl<'a> TouchingNumbers<'a> {
+    pub fn test(self) -> Side<'a>
+        ensures { result ≡ test_of self.entry }
+    {
+        Side {
+            points: self.points,
+            weights: self.weights,
+            table: self.test_table,
+            geometry: self.test_geometry,
+        }
+    }
+
+    pub fn trial(self) -> Side<'a>
+        ensures { result ≡ trial_of self.entry }
+    {
+        Side {
+            points: self.points,
+            weights: self.weights,
+            table: self.trial_table,
+            geometry: self.trial_geometry,
+        }
+    }
+
+    // Check 10.
+    fn lengths_right(self, f: Integrand, test_dim: usize, trial_dim: usize) -> bool
+        requires { (test_dim ≤ most_dim) × (trial_dim ≤ most_dim) × (self.points ≤ most_touching_points) }
+        ensures { result ≡ touching_lengths f test_dim trial_dim (touching_of self.entry) }
+    {
+        let rows = integrands::table_rows(f);
+        let width = integrands::kernel_width(f);
+        self.test().lengths_right(rows, test_dim)
+            & self.trial().lengths_right(rows, trial_dim)
+            & (self.kernel.len() == width * self.points)
+    }
+
+    // Check 11.
+    fn numbers_right(self) -> bool
+        requires { (10 * self.points ≤ length self.test_geometry.now) × (10 * self.points ≤ length self.trial_geometry.now) }
+        ensures { (f : _) (m n : ℕ) → result ≡ touching_numbers f m n (touching_of self.entry) }
+    {
+        all_finite(self.weights)
+            & all_finite(self.kernel)
+            & self.test().numbers_right()
+            & self.trial().numbers_right()
+    }
+
+    // Checks 9 to 11: the first that turns the pair down, if any.
+    pub fn check(self, f: Integrand, test_dim: usize, trial_dim: usize) -> Result<(), Refusal>
+        requires { (test_dim ≤ most_dim) × (trial_dim ≤ most_dim) }
+        ensures { told result ≡ refusal (touching_checks f test_dim trial_dim (touching_of self.entry)) }
+    {
+        if !count_right(self.points, MOST_TOUCHING_POINTS) {
+            return Err(Refusal::PointCount);
+        }
+        if !self.lengths_right(f, test_dim, trial_dim) {
+            return Err(Refusal::LentLength);
+        }
+        if !self.numbers_right() {
+            return Err(Refusal::LentNumber);
+        }
+        Ok(())
+    }
+}
+
+impl<'a> DistantNumbers<'a> {
+    // Check 10.
+    fn lengths_right(self, f: Integrand, test_dim: usize, trial_dim: usize) -> bool
+        requires { (test_dim ≤ most_dim) × (trial_dim ≤ most_dim) × (self.test.points ≤ most_distant_points) × (self.trial.points ≤ most_distant_points) }
+        ensures { result ≡ distant_lengths f test_dim trial_dim (distant_of self.entry) }
+    {
+        let rows = integrands::table_rows(f);
+        let width = integrands::kernel_width(f);
+        self.test.lengths_right(rows, test_dim)
+            & self.trial.lengths_right(rows, trial_dim)
+            & (self.kernel.len() == width * (self.test.points * self.trial.points))
+    }
+
+    // Check 11.
+    fn numbers_right(self) -> bool
+        requires { (10 * self.test.points ≤ length self.test.geometry.now) × (10 * self.trial.points ≤ length self.trial.geometry.now) }
+        ensures { (f : _) (m n : ℕ) → result ≡ distant_numbers f m n (distant_of self.entry) }
+    {
+        all_finite(self.test.weights)
+            & all_finite(self.trial.weights)
+            & all_finite(self.kernel)
+            & self.test.numbers_right()
+            & self.trial.numbers_right()
+    }
+
+    // Checks 9 to 11: the first that turns the pair down, if any.
+    pub fn check(self, f: Integrand, test_dim: usize, trial_dim: usize) -> Result<(), Refusal>
+        requires { (test_dim ≤ most_dim) × (trial_dim ≤ most_dim) }
+        ensures { told result ≡ refusal (distant_checks f test_dim trial_dim (distant_of self.entry)) }
+    {
+        if !(count_right(self.test.points, MOST_DISTANT_POINTS)
+            & count_right(self.trial.points, MOST_DISTANT_POINTS))
+        {
+            return Err(Refusal::PointCount);
+        }
+        if !self.lengths_right(f, test_dim, trial_dim) {
+            return Err(Refusal::LentLength);
+        }
+        if !self.numbers_right() {
+            return Err(Refusal::LentNumber);
+        }
+        Ok(())
+    }
 }

@@ -1,2 +1,3 @@
--- Reads of a lent table (`Rows`).
+-- Reads of a lent table (`Rows`), and of a view of one (`Views`).
 pub mod Rows
+pub mod Views

@@ -1,10 +1,14 @@
 -- `integrands::kernel_width` meets its contract: the test is the definition's. Assumes nothing.
-use mathlib.Core.Bool.{true, false}
+use Rattle.std.specs.Prelude.{true, false, eqb}
+use Rattle.std.proofs.Common.{sym, ◌∙◌, rules}
+use Rattle.lists.specs.Bool.{◌or◌}
 use Rattle.integrands.specs.TermFacts.{kernel_width_is}
 use Rattle.integrands.proofs.kernel_width.Goals as goal
 
-pub returns-then-a-f : goal.returns-then-a-f
-returns-then-a-f c = kernel_width_is _ c.kind_of-a.ensures c.kind_of-b.ensures true c.if-a-f.true
+pub returns-then-any_kind : goal.returns-then-any_kind
+unfolding ◌or◌
+returns-then-any_kind c = kernel_width_is c.args.f true (sym c.if-any_kind.true ∙ c.any_kind.ensures (λ kind. eqb kind 1 or eqb kind 2) (λ k x e. search rules))
 
 pub returns : goal.returns
-returns c = kernel_width_is _ c.kind_of-a.ensures c.kind_of-b.ensures false c.if-a-f.false
+unfolding ◌or◌
+returns c = kernel_width_is c.args.f false (sym c.if-any_kind.false ∙ c.any_kind.ensures (λ kind. eqb kind 1 or eqb kind 2) (λ k x e. search rules))

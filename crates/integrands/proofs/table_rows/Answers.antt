@@ -1,10 +1,11 @@
 -- `integrands::table_rows` meets its contract: the test is the definition's. Assumes nothing.
-use mathlib.Core.Bool.{true, false}
+use Rattle.std.specs.Prelude.{true, false, eqb}
+use Rattle.std.proofs.Common.{sym, ◌∙◌, rules}
 use Rattle.integrands.specs.TermFacts.{table_rows_is}
 use Rattle.integrands.proofs.table_rows.Goals as goal
 
-pub returns-then-a-f : goal.returns-then-a-f
-returns-then-a-f c = table_rows_is _ c.kind_of-a.ensures c.kind_of-b.ensures true c.if-a-f.true
+pub returns-then-any_kind : goal.returns-then-any_kind
+returns-then-any_kind c = table_rows_is c.args.f true (sym c.if-any_kind.true ∙ c.any_kind.ensures (λ kind. eqb kind 3) (λ k x e. search rules))
 
 pub returns : goal.returns
-returns c = table_rows_is _ c.kind_of-a.ensures c.kind_of-b.ensures false c.if-a-f.false
+returns c = table_rows_is c.args.f false (sym c.if-any_kind.false ∙ c.any_kind.ensures (λ kind. eqb kind 3) (λ k x e. search rules))

@@ -1,0 +1,8 @@
+-- `lent_numbers::count_right` meets its contract: the test of the range is the definition's. Assumes nothing.
+use native.Mathlib.Omega.{arith}
+use Rattle.lists.specs.Bool.{◌and◌}
+use Rattle.lent_numbers.proofs.count_right.Goals as goal
+
+pub returns : goal.returns
+unfolding ◌and◌
+returns c = rw (c.contains.ensures.value, c.new.ensures.start, c.new.ensures.end, c.new.ensures.exhausted) (grind arith)
