@@ -9,11 +9,13 @@ use Rattle.std.proofs.Math.Seq.{length-sets, set_out}
 use Rattle.lists.specs.Bounded.{lt_or_le, eq_or_ne}
 use Rattle.lists.specs.Stores.{sets_append, sets_more}
 use Rattle.function.specs.declared.Element.{Element}
-use Rattle.dof_numbering.specs.declared.Next.{Next}
 use Rattle.dof_numbering.specs.Numbering.{Visit, visit, visit_each, visits_of, visit_at, up_from, owners_on}
 use Rattle.dof_numbering.proofs.Facts.{length_up_from, length_owners_on}
 use Rattle.dof_numbering.proofs.ByCell.{length_each, get_d_each}
-use Rattle.dof_numbering.specs.Walk.{Room, State, cell_dofs, met_again, met_first, seen, slot, state, step, walk}
+use Rattle.dof_numbering.specs.Walk.{Room, State, cell_dofs, met_again, met_first, seen, slot, step, walk}
+
+same_state : (s t : State) → s.met ≡ t.met → s.dofs ≡ t.dofs → s.owners ≡ t.owners → s.at ≡ t.at → s.next ≡ t.next → s ≡ t
+same_state s t p q r a f = rw (p, q, r, a, f)
 
 pub step_first : (st : State) (v : Visit) → seen st v ≡ 0 → step st v ≡ met_first st v
 unfolding step
@@ -24,16 +26,16 @@ unfolding step
 step_again st v e = rw (ne_eqb (seen st v) 0 e)
 
 -- with the numbers that the program has at hand: the slot i of entity x, and w, its m DOFs as an index
-module _ (met dofs owners met' dofs' owners' : List ℕ) (n n' : Next) (d x m i w : ℕ) (slots : i ≡ slot d x) (wide : w ≡ m) where
-  pub visited_first : get_or met i 0 ≡ 0 → met' ≡ set met i (n.free + 1) → dofs' ≡ sets dofs n.at (up_from n.free m) → owners' ≡ sets owners (3 * n.free) (owners_on d x m)
-      → n'.at ≡ n.at + w → n'.free ≡ n.free + m → state met' dofs' owners' n' ≡ step (state met dofs owners n) (visit d x m)
+module _ (st st' : State) (d x m i w : ℕ) (slots : i ≡ slot d x) (wide : w ≡ m) where
+  pub visited_first : get_or st.met i 0 ≡ 0 → st'.met ≡ set st.met i (st.next + 1) → st'.dofs ≡ sets st.dofs st.at (up_from st.next m)
+      → st'.owners ≡ sets st.owners (3 * st.next) (owners_on d x m) → st'.at ≡ st.at + w → st'.next ≡ st.next + m → st' ≡ step st (visit d x m)
   visited_first z p q r a f =
-      rw (p, q, r, a, f, slots, wide) (sym (step_first (state met dofs owners n) (visit d x m) (ap (λ (j : ℕ). get_or met j 0) (sym slots) ∙ z)))
+      same_state st' (met_first st (visit d x m)) (rw (← slots) p) q r (rw (← wide) a) f ∙ sym (step_first st (visit d x m) (ap (λ (j : ℕ). get_or st.met j 0) (sym slots) ∙ z))
 
-  pub visited_again : (get_or met i 0 ≡ 0 → ⊥) → met' ≡ met → dofs' ≡ sets dofs n.at (up_from (get_or met i 0 - 1) m) → owners' ≡ owners
-      → n'.at ≡ n.at + w → n'.free ≡ n.free → state met' dofs' owners' n' ≡ step (state met dofs owners n) (visit d x m)
+  pub visited_again : (get_or st.met i 0 ≡ 0 → ⊥) → st'.met ≡ st.met → st'.dofs ≡ sets st.dofs st.at (up_from (get_or st.met i 0 - 1) m) → st'.owners ≡ st.owners
+      → st'.at ≡ st.at + w → st'.next ≡ st.next → st' ≡ step st (visit d x m)
   visited_again z p q r a f =
-      rw (p, q, r, a, f, slots, wide) (sym (step_again (state met dofs owners n) (visit d x m) (λ e. z (ap (λ (j : ℕ). get_or met j 0) slots ∙ e))))
+      same_state st' (met_again st (visit d x m)) p (rw (← slots) q) r (rw (← wide) a) f ∙ sym (step_again st (visit d x m) (λ e. z (ap (λ (j : ℕ). get_or st.met j 0) slots ∙ e)))
 
 -- a turn of the loop that writes the numbers, and of the one that writes the owner records; w is the loop's count, as an index
 pub numbers_step : (l d : List ℕ) (at n i w : ℕ) → d ≡ sets l at (up_from n i) → w ≡ i → set d (at + w) (n + i) ≡ sets l at (up_from n (i + 1))

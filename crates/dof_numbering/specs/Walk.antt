@@ -7,7 +7,6 @@ use Rattle.grid.specs.Mesh.{most_cells, most_vertices, most_edges}
 use Rattle.function.specs.Elements.{most_dim, cell_dim, Space}
 use Rattle.function.specs.declared.Element.{Element}
 use Rattle.function.specs.declared.Elements.{Elements}
-use Rattle.dof_numbering.specs.declared.Next.{Next}
 use Rattle.dof_numbering.specs.Numbering.{Visit, up_from, owners_on, kind}
 use Rattle.dof_numbering.specs.ByCell.{Filled}
 
@@ -46,9 +45,6 @@ pub record State : Type 0 where
   pub owners : List ℕ
   pub at : ℕ
   pub next : ℕ
-
-abbrev pub state : List ℕ → List ℕ → List ℕ → Next → State
-state met dofs owners n = record { met = met; dofs = dofs; owners = owners; at = n.at; next = n.free }
 
 -- what is kept of the entity of a visit
 abbrev pub seen : State → Visit → ℕ

@@ -1,5 +1,5 @@
 -- `dof_numbering::write_owners` meets its contract. The invariant: the first `place` records are stored (`sets`); a turn is `owners_step`. Assumes nothing.
-use Prim.Native.Nat.{◌≤◌, ◌-◌}
+use Prim.Native.Nat.{◌≤◌}
 use mathlib.Core.Path.{◌≡◌}
 use lib.ListN.{length}
 use lib.Seq.{sets}
@@ -8,6 +8,3 @@ use Rattle.dof_numbering.proofs.write_owners.Given as goal
 
 abbrev pub invariant-loop-place : goal.invariant-loop-place
 invariant-loop-place l = (l.place ≤ l.m) × (length l.owners ≡ length l.initial.owners) × (l.owners ≡ sets l.initial.owners l.at (owners_on l.dimension l.x l.place))
-
-abbrev pub decreases-loop-place : goal.decreases-loop-place
-decreases-loop-place l = l.m - l.place
