@@ -1,32 +1,213 @@
-// The head of a case.
-use full_reads::Source;
+// A case: a mesh with elements, batch size and integrand, and what each pair is lent.
 use grid::Sizes;
 use planning::Assembly;
-use recorded::{digit_at, read_head};
-use std::fs::File;
+use recorded::{Head, PlanLengths, Recorded, Words};
+use std::alloc::Global;
+use std::io;
 
-// What planning is given, the point counts, and planning's refusal, or 0.
+/// The geometry of points and the pool of other numbers, of which lists are lent.
 #[derive(Clone, Copy)]
+pub struct Numbers<'a> {
+    pub geometry: &'a [f64],
+    pub pool: &'a [f64],
+}
+
+/// How many points a cell has, and how long the lists are that a distant pair is lent.
+#[derive(Clone, Copy)]
+struct Distant {
+    test_points: usize,
+    trial_points: usize,
+    test_weights: usize,
+    trial_weights: usize,
+    test_table: usize,
+    trial_table: usize,
+    kernel: usize,
+    test_geometry: usize,
+    trial_geometry: usize,
+}
+
+/// The same of a touching pair.
+#[derive(Clone, Copy)]
+struct Touching {
+    points: usize,
+    weights: usize,
+    test_table: usize,
+    trial_table: usize,
+    kernel: usize,
+    geometry: usize,
+}
+
+/// Where the lists that a pair is lent begin: geometry in the geometry, all else in the pool. A touching pair's weights are its test weights.
+#[derive(Clone, Copy, PartialEq)]
+pub struct Places {
+    test_weights: usize,
+    trial_weights: usize,
+    test_table: usize,
+    trial_table: usize,
+    kernel: usize,
+    test_geometry: usize,
+    trial_geometry: usize,
+}
+
+impl Places {
+    // How many numbers a record of the file has: one more than there are lists.
+    const NUMBERS: u32 = 8;
+}
+
+impl Recorded for Places {
+    fn read(words: &mut Words<'_>) -> io::Result<Self> {
+        let places = Places {
+            test_weights: usize::read(words)?,
+            trial_weights: usize::read(words)?,
+            test_table: usize::read(words)?,
+            trial_table: usize::read(words)?,
+            kernel: usize::read(words)?,
+            test_geometry: usize::read(words)?,
+            trial_geometry: usize::read(words)?,
+        };
+        words.number()?;
+        Ok(places)
+    }
+}
+
+/// The lists that a pair is lent.
+#[derive(Clone, Copy)]
+pub struct TouchingLists<'a> {
+    pub points: usize,
+    pub weights: &'a [f64],
+    pub test_table: &'a [f64],
+    pub trial_table: &'a [f64],
+    pub kernel: &'a [f64],
+    pub test_geometry: &'a [f64],
+    pub trial_geometry: &'a [f64],
+}
+
+#[derive(Clone, Copy)]
+pub struct DistantLists<'a> {
+    pub test_points: usize,
+    pub trial_points: usize,
+    pub test_weights: &'a [f64],
+    pub trial_weights: &'a [f64],
+    pub test_table: &'a [f64],
+    pub trial_table: &'a [f64],
+    pub kernel: &'a [f64],
+    pub test_geometry: &'a [f64],
+    pub trial_geometry: &'a [f64],
+}
+
+// The n numbers of a list from a place on; none where they are not there, which an add turns down.
+fn part(list: &[f64], place: usize, n: usize) -> &[f64] {
+    list.get(place..)
+        .and_then(|rest| rest.get(..n))
+        .unwrap_or(&[])
+}
+
+impl<'a> Numbers<'a> {
+    fn touching(self, lengths: Touching, places: Places) -> TouchingLists<'a> {
+        TouchingLists {
+            points: lengths.points,
+            weights: part(self.pool, places.test_weights, lengths.weights),
+            test_table: part(self.pool, places.test_table, lengths.test_table),
+            trial_table: part(self.pool, places.trial_table, lengths.trial_table),
+            kernel: part(self.pool, places.kernel, lengths.kernel),
+            test_geometry: part(self.geometry, places.test_geometry, lengths.geometry),
+            trial_geometry: part(self.geometry, places.trial_geometry, lengths.geometry),
+        }
+    }
+
+    fn distant(self, lengths: Distant, places: Places) -> DistantLists<'a> {
+        DistantLists {
+            test_points: lengths.test_points,
+            trial_points: lengths.trial_points,
+            test_weights: part(self.pool, places.test_weights, lengths.test_weights),
+            trial_weights: part(self.pool, places.trial_weights, lengths.trial_weights),
+            test_table: part(self.pool, places.test_table, lengths.test_table),
+            trial_table: part(self.pool, places.trial_table, lengths.trial_table),
+            kernel: part(self.pool, places.kernel, lengths.kernel),
+            test_geometry: part(self.geometry, places.test_geometry, lengths.test_geometry),
+            trial_geometry: part(self.geometry, places.trial_geometry, lengths.trial_geometry),
+        }
+    }
+}
+
+/// What planning is given, its refusal, or 0, and the lengths of the lists that the runs are lent and write.
+#[derive(Drop)]
 pub struct Case {
     pub sizes: Sizes,
     pub assembly: Assembly,
-    pub test_points: usize,
-    pub trial_points: usize,
-    pub points: usize,
     pub refusal: u32,
+    pub lengths: PlanLengths,
+    pub pairs: u32,
+    pub test_owners: usize,
+    pub trial_owners: usize,
+    pub matrix: usize,
+    pub entries: usize,
+    distant: Distant,
+    touching: Touching,
+    pub kinds: Vec<u8>,
+    pub cell_vertices: Vec<u32>,
+    pub cell_edges: Vec<u32>,
 }
 
-pub fn read_case(file: &mut Source<File>) -> Case {
-    let head = read_head(file);
-    let sizes = head.sizes;
-    let assembly = head.assembly;
-    let forms = head.forms;
-    Case {
-        sizes: sizes,
-        assembly: assembly,
-        test_points: digit_at(&forms, 11) as usize,
-        trial_points: digit_at(&forms, 12) as usize,
-        points: digit_at(&forms, 13) as usize,
-        refusal: digit_at(&forms, 14) as u32,
+impl Case {
+    pub fn read(words: &mut Words<'_>, alloc: Global) -> io::Result<Self> {
+        let Head {
+            sizes,
+            assembly,
+            digits: [test_points, trial_points, points, refusal, _],
+        } = Head::read(words)?;
+
+        let lengths = PlanLengths::read(words)?;
+        let pairs = u32::read(words)? / Places::NUMBERS;
+        let test_owners = usize::read(words)?;
+        let trial_owners = usize::read(words)?;
+        let matrix = usize::read(words)?;
+        let entries = usize::read(words)?;
+        let distant = Distant {
+            test_points: usize::from(test_points),
+            trial_points: usize::from(trial_points),
+            test_weights: usize::read(words)?,
+            trial_weights: usize::read(words)?,
+            test_table: usize::read(words)?,
+            trial_table: usize::read(words)?,
+            kernel: usize::read(words)?,
+            test_geometry: usize::read(words)?,
+            trial_geometry: usize::read(words)?,
+        };
+        let touching = Touching {
+            points: usize::from(points),
+            weights: usize::read(words)?,
+            test_table: usize::read(words)?,
+            trial_table: usize::read(words)?,
+            kernel: usize::read(words)?,
+            geometry: usize::read(words)?,
+        };
+        Ok(Case {
+            sizes,
+            assembly,
+            refusal: u32::from(refusal),
+            lengths,
+            pairs,
+            test_owners,
+            trial_owners,
+            matrix,
+            entries,
+            distant,
+            touching,
+            kinds: vec![in alloc; TRIANGLE; sizes.cells as usize]?,
+            cell_vertices: words.list(alloc, lengths.cell_vertices)?,
+            cell_edges: words.list(alloc, lengths.cell_vertices)?,
+        })
+    }
+
+    pub fn touching<'a>(&self, numbers: Numbers<'a>, places: Places) -> TouchingLists<'a> {
+        numbers.touching(self.touching, places)
+    }
+
+    pub fn distant<'a>(&self, numbers: Numbers<'a>, places: Places) -> DistantLists<'a> {
+        numbers.distant(self.distant, places)
     }
 }
+
+// The kind of a triangle in a kind list.
+const TRIANGLE: u8 = 3;

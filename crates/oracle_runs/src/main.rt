@@ -4,169 +4,110 @@
 #![tactic(auto)]
 
 mod cases;
-mod lent;
 mod recorded_runs;
 
-use crate::cases::{Case, read_case};
-use crate::lent::{float_room, front, room};
-use crate::recorded_runs::{entries_agree, matrix_agrees};
-use full_reads::Source;
+use crate::cases::{Case, Numbers};
+use crate::recorded_runs::Planning;
 use planning::plan;
-use plans::{PlanNumbers, Planned};
-use recorded::{at_end, kinds_of, read_floats, read_numbers, read_word, same_numbers};
-use std::fs::File;
-use std::io;
+use plans::Planned;
+use recorded::{PlanVecs, Words};
+use std::alloc::Global;
+use std::{fs, io};
+
+// How many floats there are of geometry, and in the pool.
+const GEOMETRY: usize = 400;
+
+const POOL: usize = 512;
+
+// The first n numbers of a list, or all where they are fewer.
+fn front(list: &[u32], n: usize) -> &[u32] {
+    list.get(..n).unwrap_or(list)
+}
 
 // Whether an accepted planning and both its runs give what is recorded.
-fn ready_agrees(
-    file: &mut Source<File>,
-    n: PlanNumbers,
-    case: Case,
-    lengths: &[u32; 24],
-    floats: &[f64; 912],
-    kinds: &[u8],
-    test_dofs: &[u32],
-    trial_dofs: &[u32],
-    test_colours: &[u32],
-    trial_colours: &[u32],
-    test_owners: &[u32],
-    trial_owners: &[u32],
-    work: &[u32],
-) -> bool {
-    let counts = [n.rows, n.columns, n.distant, n.touching];
-    let test_dofs = front(test_dofs, lengths, 1);
-    let trial_dofs = front(trial_dofs, lengths, 2);
-    let work = front(work, lengths, 6);
-    let same = same_numbers(file, &counts)
-        & same_numbers(file, test_dofs)
-        & same_numbers(file, trial_dofs)
-        & same_numbers(file, front(test_colours, lengths, 3))
-        & same_numbers(file, front(trial_colours, lengths, 3))
-        & same_numbers(file, front(test_owners, lengths, 8))
-        & same_numbers(file, front(trial_owners, lengths, 9))
-        & same_numbers(file, work);
-    let mut places = [0u32; 4608];
-    let mut rows = [0u32; 768];
-    let mut columns = [0u32; 768];
-    let mut values = [0.0; 768];
-    let mut matrix = *floats;
-    read_numbers(file, room(&mut places, lengths, 7));
-    let entries = entries_agree(
-        file,
-        n,
+fn planning_agrees(words: &mut Words<'_>, alloc: Global, planning: Planning) -> io::Result<bool> {
+    let Planning {
         case,
-        lengths,
-        &places,
-        floats,
-        kinds,
-        test_dofs,
-        trial_dofs,
-        work,
-        room(&mut rows, lengths, 11),
-        room(&mut columns, lengths, 11),
-        float_room(&mut values, 0, lengths, 11),
-    );
-    let dense = matrix_agrees(
-        file,
-        n,
-        case,
-        lengths,
-        &places,
-        floats,
-        kinds,
-        test_dofs,
-        trial_dofs,
-        work,
-        float_room(&mut matrix, 400, lengths, 10),
-    );
-    same & entries & dense & (case.refusal == 0)
+        plan,
+        lists,
+        ..
+    } = planning;
+    let counts = [plan.rows, plan.columns, plan.distant, plan.touching];
+    let same = words.is_next(&counts)?
+        & words.is_next(&lists.test_dofs)?
+        & words.is_next(&lists.trial_dofs)?
+        & words.is_next(&lists.test_colours)?
+        & words.is_next(&lists.trial_colours)?
+        & words.is_next(front(&lists.test_owners, case.test_owners))?
+        & words.is_next(front(&lists.trial_owners, case.trial_owners))?
+        & words.is_next(&lists.work)?;
+    let places = words.list(alloc, case.pairs as usize)?;
+    let planning = Planning {
+        places: &places,
+        ..planning
+    };
+    Ok(
+        same & planning.entries_agree(words, alloc)?
+            & planning.matrix_agrees(words, alloc)?
+            & (case.refusal == 0),
+    )
 }
 
-// Reads a case whole and replays it, with arrays that are long enough for 24 cells.
-fn case_agrees(file: &mut Source<File>, floats: &[f64; 912]) -> bool {
-    let case = read_case(file);
-    let sizes = case.sizes;
-    let mut lengths = [0u32; 24];
-    let triangles = [3u8; 2048];
-    let kinds = kinds_of(&triangles, sizes.cells);
-    let mut cell_vertices = [0u32; 72];
-    let mut cell_edges = [0u32; 72];
-    let mut test_dofs = [0u32; 240];
-    let mut trial_dofs = [0u32; 240];
-    let mut test_colours = [0u32; 24];
-    let mut trial_colours = [0u32; 24];
-    let mut test_owners = [0u32; 720];
-    let mut trial_owners = [0u32; 720];
-    let mut work = [0u32; 1728];
-    read_numbers(file, &mut lengths);
-    read_numbers(file, room(&mut cell_vertices, &lengths, 0));
-    read_numbers(file, room(&mut cell_edges, &lengths, 0));
+// Reads a case whole and replays it.
+fn case_agrees(words: &mut Words<'_>, alloc: Global, numbers: Numbers<'_>) -> io::Result<bool> {
+    let case = Case::read(words, alloc)?;
+    let mut lists = PlanVecs::new(alloc, case.lengths)?;
     let answer = plan(
-        sizes,
-        kinds,
-        front(&cell_vertices, &lengths, 0),
-        front(&cell_edges, &lengths, 0),
+        case.sizes,
+        &case.kinds,
+        &case.cell_vertices,
+        &case.cell_edges,
         case.assembly,
-        room(&mut test_dofs, &lengths, 1),
-        room(&mut trial_dofs, &lengths, 2),
-        room(&mut test_colours, &lengths, 3),
-        room(&mut trial_colours, &lengths, 3),
-        room(&mut test_owners, &lengths, 4),
-        room(&mut trial_owners, &lengths, 5),
-        room(&mut work, &lengths, 6),
+        &mut lists.test_dofs,
+        &mut lists.trial_dofs,
+        &mut lists.test_colours,
+        &mut lists.trial_colours,
+        &mut lists.test_owners,
+        &mut lists.trial_owners,
+        &mut lists.work,
     );
     match answer {
-        Planned::Refused(number) => number == case.refusal,
-        Planned::Ready(n) => ready_agrees(
-            file,
-            n,
-            case,
-            &lengths,
-            floats,
-            kinds,
-            &test_dofs,
-            &trial_dofs,
-            &test_colours,
-            &trial_colours,
-            &test_owners,
-            &trial_owners,
-            &work,
-        ),
-    }
-}
-
-// Replays n cases and answers how many differ, each of which is named by its number, from 1.
-fn replay_cases(
-    rt: &HostRuntime,
-    file: &mut Source<File>,
-    n: u64,
-    floats: &[f64; 912],
-) -> io::Result<u64> {
-    let mut differ = 0;
-    for i in 0..n {
-        if !case_agrees(file, floats) {
-            let number = std::num::wrapping_add_u64(i, 1);
-            println!(rt; "differs: case {number}")?;
-            differ = std::num::wrapping_add_u64(differ, 1);
+        Planned::Refused(refusal) => Ok(refusal == case.refusal),
+        Planned::Ready(plan) => {
+            let planning = Planning {
+                case: &case,
+                plan,
+                lists: &lists,
+                places: &[],
+                numbers,
+            };
+            planning_agrees(words, alloc, planning)
         }
     }
-    Ok(differ)
 }
 
-// The file: how many cases, geometry, pool, then the cases.
-fn replay_file(rt: &HostRuntime, file: &mut Source<File>) -> io::Result<()> {
-    let mut floats = [0.0; 912];
-    let n = read_word(file);
-    read_floats(file, &mut floats);
-    let differ = replay_cases(rt, file, n, &floats)?;
-    if !at_end(file) {
+// The file: how many cases, geometry, pool, then the cases. Each that differs is named by its number, from 1.
+fn main(rt: HostRuntime) -> io::Result<()> {
+    let alloc = rt.alloc();
+    let text = fs::read_to_string(&rt, "cases")?;
+    let mut words = Words::new(text.as_str());
+    let n = words.word()?;
+    let geometry = words.list(alloc, GEOMETRY)?;
+    let pool = words.list(alloc, POOL)?;
+    let numbers = Numbers {
+        geometry: &geometry,
+        pool: &pool,
+    };
+    let mut differ = 0u64;
+    for i in 0..n {
+        if !case_agrees(&mut words, alloc, numbers)? {
+            let number = i + 1;
+            println!(rt; "differs: case {number}")?;
+            differ += 1;
+        }
+    }
+    if !words.is_at_end() {
         println!(rt; "the file has more cases")?;
     }
-    println!(rt; "{n} recorded answers of the Rust, {differ} differ")?;
-    file.finish()
-}
-
-fn main(rt: HostRuntime) -> io::Result<()> {
-    let mut file = Source::new(File::open(&rt, "cases")?);
-    replay_file(&rt, &mut file)
+    println!(rt; "{n} recorded answers of the Rust, {differ} differ")
 }

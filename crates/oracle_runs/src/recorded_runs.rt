@@ -1,136 +1,139 @@
 // Whole runs on recorded numbers.
-use crate::cases::Case;
-use crate::lent::{length_at, lent};
+use crate::cases::{Case, Numbers, Places};
 use boundary_assemblers::{Added, Looked, Run};
-use full_reads::Source;
-use numbers::wide;
+use cell_pairs::WorkRecord;
 use plans::PlanNumbers;
-use recorded::{same_floats, same_numbers};
-use std::fs::File;
+use recorded::{PlanVecs, Words};
+use std::alloc::Global;
+use std::io;
 
-// The run that a call hands back. A refused one has not moved, and that shows at the end.
-fn after(answer: Added) -> Run {
+/// A planning that was accepted, and what its pairs are lent.
+#[derive(Clone, Copy)]
+pub struct Planning<'a> {
+    pub case: &'a Case,
+    pub plan: PlanNumbers,
+    pub lists: &'a PlanVecs,
+    pub places: &'a [Places],
+    pub numbers: Numbers<'a>,
+}
+
+// The run that a call hands back, or its refusal.
+fn moved(answer: Added) -> Result<Run, u32> {
     match answer {
-        Added::Accepted(run) => run,
-        Added::Refused(run, _) => run,
+        Added::Accepted(run) => Ok(run),
+        Added::Refused(_, refusal) => Err(refusal),
     }
 }
 
-// Whether an entries run writes the recorded entries.
-pub fn entries_agree(
-    file: &mut Source<File>,
-    n: PlanNumbers,
-    case: Case,
-    lengths: &[u32; 24],
-    places: &[u32; 4608],
-    floats: &[f64],
-    kinds: &[u8],
-    test_dofs: &[u32],
-    trial_dofs: &[u32],
-    work: &[u32],
-    rows: &mut [u32],
-    columns: &mut [u32],
-    values: &mut [f64],
-) -> bool {
-    let mut run = Run::begin_entries(n);
-    for k in 0..wide(n.touching) {
-        run = after(run.add_entries(
-            kinds,
-            test_dofs,
-            trial_dofs,
-            work,
-            case.points,
-            lent(floats, lengths, places, run.position, 0, 19),
-            lent(floats, lengths, places, run.position, 2, 20),
-            lent(floats, lengths, places, run.position, 3, 21),
-            lent(floats, lengths, places, run.position, 4, 22),
-            lent(floats, lengths, places, run.position, 5, 23),
-            lent(floats, lengths, places, run.position, 6, 23),
-            rows,
-            columns,
-            values,
-        ));
+// The record at the run's position.
+fn looked(answer: Looked) -> Result<WorkRecord, u32> {
+    match answer {
+        Looked::Found(_, record) => Ok(record),
+        Looked::Refused(_, refusal) => Err(refusal),
     }
-    let same_rows = same_numbers(file, rows);
-    let same_columns = same_numbers(file, columns);
-    let same_values = same_floats(file, values);
-    same_rows & same_columns & same_values & (wide(run.position) == length_at(lengths, 7) / 8)
 }
 
-// The add that the record asks for.
-fn add_next(
-    run: Run,
-    case: Case,
-    lengths: &[u32; 24],
-    places: &[u32; 4608],
-    floats: &[f64],
-    kinds: &[u8],
-    test_dofs: &[u32],
-    trial_dofs: &[u32],
-    work: &[u32],
-    matrix: &mut [f64],
-) -> Run {
-    match run.look(kinds, test_dofs, trial_dofs, work) {
-        Looked::Refused(r, _) => r,
-        Looked::Found(r, record) => {
-            if record.pattern == 255 {
-                after(r.add_distant(
-                    kinds,
-                    test_dofs,
-                    trial_dofs,
-                    work,
-                    case.test_points,
-                    case.trial_points,
-                    lent(floats, lengths, places, r.position, 0, 12),
-                    lent(floats, lengths, places, r.position, 1, 13),
-                    lent(floats, lengths, places, r.position, 2, 14),
-                    lent(floats, lengths, places, r.position, 3, 15),
-                    lent(floats, lengths, places, r.position, 4, 16),
-                    lent(floats, lengths, places, r.position, 5, 17),
-                    lent(floats, lengths, places, r.position, 6, 18),
-                    matrix,
-                ))
-            } else {
-                after(r.add_touching(
-                    kinds,
-                    test_dofs,
-                    trial_dofs,
-                    work,
-                    case.points,
-                    lent(floats, lengths, places, r.position, 0, 19),
-                    lent(floats, lengths, places, r.position, 2, 20),
-                    lent(floats, lengths, places, r.position, 3, 21),
-                    lent(floats, lengths, places, r.position, 4, 22),
-                    lent(floats, lengths, places, r.position, 5, 23),
-                    lent(floats, lengths, places, r.position, 6, 23),
-                    matrix,
-                ))
-            }
+impl Planning<'_> {
+    // A whole entries run: the position after it, or the first refusal.
+    fn play_entries(
+        self,
+        rows: &mut [u32],
+        columns: &mut [u32],
+        values: &mut [f64],
+    ) -> Result<u32, u32> {
+        let lists = self.lists;
+        let mut run = Run::begin_entries(self.plan);
+        for places in self.places.iter().skip(self.plan.distant as usize) {
+            let lent = self.case.touching(self.numbers, *places);
+            run = moved(run.add_entries(
+                &self.case.kinds,
+                &lists.test_dofs,
+                &lists.trial_dofs,
+                &lists.work,
+                lent.points,
+                lent.weights,
+                lent.test_table,
+                lent.trial_table,
+                lent.kernel,
+                lent.test_geometry,
+                lent.trial_geometry,
+                rows,
+                columns,
+                values,
+            ))?;
         }
+        Ok(run.position)
+    }
+
+    // A whole dense run, each pair added as its record asks.
+    fn play_matrix(self, matrix: &mut [f64]) -> Result<u32, u32> {
+        let lists = self.lists;
+        let kinds = &self.case.kinds;
+        let mut run = Run::begin(self.plan);
+        for places in self.places {
+            let record = looked(run.look(kinds, &lists.test_dofs, &lists.trial_dofs, &lists.work))?;
+            let added = if record.pattern == DISTANT {
+                let lent = self.case.distant(self.numbers, *places);
+                run.add_distant(
+                    kinds,
+                    &lists.test_dofs,
+                    &lists.trial_dofs,
+                    &lists.work,
+                    lent.test_points,
+                    lent.trial_points,
+                    lent.test_weights,
+                    lent.trial_weights,
+                    lent.test_table,
+                    lent.trial_table,
+                    lent.kernel,
+                    lent.test_geometry,
+                    lent.trial_geometry,
+                    matrix,
+                )
+            } else {
+                let lent = self.case.touching(self.numbers, *places);
+                run.add_touching(
+                    kinds,
+                    &lists.test_dofs,
+                    &lists.trial_dofs,
+                    &lists.work,
+                    lent.points,
+                    lent.weights,
+                    lent.test_table,
+                    lent.trial_table,
+                    lent.kernel,
+                    lent.test_geometry,
+                    lent.trial_geometry,
+                    matrix,
+                )
+            };
+            run = moved(added)?;
+        }
+        Ok(run.position)
+    }
+
+    /// Whether an entries run writes the recorded entries.
+    pub fn entries_agree(self, words: &mut Words<'_>, alloc: Global) -> io::Result<bool> {
+        let mut rows = vec![in alloc; 0; self.case.entries]?;
+        let mut columns = vec![in alloc; 0; self.case.entries]?;
+        let mut values = vec![in alloc; 0.0; self.case.entries]?;
+        let played = self.play_entries(&mut rows, &mut columns, &mut values);
+        Ok(
+            (played == Ok(self.case.pairs))
+                & words.is_next(&rows)?
+                & words.is_next(&columns)?
+                & words.is_next(&values)?,
+        )
+    }
+
+    /// Whether a dense run, from the front of the pool, gives the recorded matrix.
+    pub fn matrix_agrees(self, words: &mut Words<'_>, alloc: Global) -> io::Result<bool> {
+        let front = self.numbers.pool.get(..self.case.matrix).unwrap_or(&[]);
+        let mut matrix = Vec::from_slice(alloc, front)?;
+        let played = self.play_matrix(&mut matrix);
+        Ok((played == Ok(self.case.pairs)) & words.is_next(&matrix)?)
     }
 }
 
-// Whether a dense run gives the recorded matrix.
-pub fn matrix_agrees(
-    file: &mut Source<File>,
-    n: PlanNumbers,
-    case: Case,
-    lengths: &[u32; 24],
-    places: &[u32; 4608],
-    floats: &[f64],
-    kinds: &[u8],
-    test_dofs: &[u32],
-    trial_dofs: &[u32],
-    work: &[u32],
-    matrix: &mut [f64],
-) -> bool {
-    let records = length_at(lengths, 7) / 8;
-    let mut run = Run::begin(n);
-    for k in 0..records {
-        run = add_next(
-            run, case, lengths, places, floats, kinds, test_dofs, trial_dofs, work, matrix,
-        );
-    }
-    let same = same_floats(file, matrix);
-    same & (wide(run.position) == records)
-}
+// The pattern of a distant pair.
+const DISTANT: u32 = 255;

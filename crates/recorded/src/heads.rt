@@ -1,89 +1,117 @@
-// The head of a recorded case: what planning is given, and the digits of its second word.
-ghost use Rattle.std.specs.Prelude.{◌≤◌};
-
-use crate::{digit_at, finite_of, four_at, read_text, read_word};
-use full_reads::Source;
+// The head of a recorded case: what planning is given, and digits that each program reads its own way.
+use crate::{Recorded, Words};
 use function::{Element, Elements};
 use grid::Sizes;
 use integrands::{Integrand, Term};
 use planning::Assembly;
-use std::io::Read;
+use std::io;
 
+/// Whether a term has a factor, and its kind.
 #[derive(Clone, Copy)]
-pub struct Head {
-    pub sizes: Sizes,
-    pub assembly: Assembly,
-    pub forms: [u8; 17],
+struct Form {
+    scaled: bool,
+    kind: u32,
 }
 
-// The elements of a side: that of triangles, its three numbers from digit i on, stands for quads too, of which there are none.
-fn elements_at(forms: &[u8; 17], i: usize) -> Elements
-    requires { i ≤ 13 }
-{
-    let element = Element {
-        a: digit_at(forms, i) as u32,
-        b: digit_at(forms, i + 1) as u32,
-        c: digit_at(forms, i + 2) as u32,
-    };
+impl Form {
+    fn read(words: &mut Words<'_>) -> io::Result<Self> {
+        Ok(Form {
+            scaled: words.digit()? != 0,
+            kind: u32::from(words.digit()?),
+        })
+    }
+
+    fn term(self, factor: f64) -> Term {
+        if self.scaled {
+            Term::Scaled(factor, self.kind)
+        } else {
+            Term::Bare(self.kind)
+        }
+    }
+}
+
+/// How many terms an integrand has, and their forms.
+#[derive(Clone, Copy)]
+pub struct Forms {
+    terms: u32,
+    first: Form,
+    second: Form,
+}
+
+impl Forms {
+    pub fn read(words: &mut Words<'_>) -> io::Result<Self> {
+        Ok(Forms {
+            terms: u32::from(words.digit()?),
+            first: Form::read(words)?,
+            second: Form::read(words)?,
+        })
+    }
+
+    /// The integrand, whose two factors are the next words.
+    pub fn read_factors(self, words: &mut Words<'_>) -> io::Result<Integrand> {
+        Ok(Integrand {
+            terms: self.terms,
+            first: self.first.term(f64::read(words)?),
+            second: self.second.term(f64::read(words)?),
+        })
+    }
+}
+
+/// An element: a, b and c.
+pub fn read_element(words: &mut Words<'_>) -> io::Result<Element> {
+    Ok(Element {
+        a: u32::from(words.digit()?),
+        b: u32::from(words.digit()?),
+        c: u32::from(words.digit()?),
+    })
+}
+
+// A recorded element is that of triangles, and stands for quads too where there are none.
+fn on_both(element: Element) -> Elements {
     Elements {
         triangle: element,
         quad: element,
     }
 }
 
-// A term, its form and kind from digit i on.
-fn term_at(forms: &[u8; 17], i: usize, factor: f64) -> Term
-    requires { i ≤ 14 }
-{
-    let kind = digit_at(forms, i + 1) as u32;
-    if digit_at(forms, i) == 0 {
-        return Term::Bare(kind);
-    }
-    Term::Scaled(factor, kind)
+/// What planning is given, and five more digits.
+#[derive(Clone, Copy)]
+pub struct Head {
+    pub sizes: Sizes,
+    pub assembly: Assembly,
+    pub digits: [u8; 5],
 }
 
-// The integrand: how many terms, then the form and kind of each, from digit i on. The two factors are the next words.
-pub fn read_integrand<R: Read>(file: &mut Source<R>, forms: &[u8; 17], i: usize) -> Integrand
-    requires { i ≤ 11 }
-{
-    let first = finite_of(read_word(file));
-    let second = finite_of(read_word(file));
-    Integrand {
-        terms: digit_at(forms, i) as u32,
-        first: term_at(forms, i + 1, first),
-        second: term_at(forms, i + 3, second),
-    }
-}
-
-// The front of a list of triangles, as long as there are cells; the whole list where there are more.
-pub fn kinds_of(triangles: &[u8], cells: u32) -> &[u8] {
-    let n = cells as usize;
-    if triangles.len() < n {
-        return triangles;
-    }
-    let start = 0;
-    &triangles[start..n]
-}
-
-// Sizes, forms and factors.
-pub fn read_head<R: Read>(file: &mut Source<R>) -> Head {
-    let numbers = read_text(file);
-    let forms = read_text(file);
-    let integrand = read_integrand(file, &forms, 6);
-    let sizes = Sizes {
-        cells: four_at(&numbers, 0) as u32,
-        vertices: four_at(&numbers, 4) as u32,
-        edges: four_at(&numbers, 8) as u32,
-    };
-    let assembly = Assembly {
-        test: elements_at(&forms, 0),
-        trial: elements_at(&forms, 3),
-        batch: four_at(&numbers, 12) as u32,
-        integrand: integrand,
-    };
-    Head {
-        sizes: sizes,
-        assembly: assembly,
-        forms: forms,
+impl Head {
+    pub fn read(words: &mut Words<'_>) -> io::Result<Self> {
+        words.finish_word();
+        let sizes = Sizes {
+            cells: u32::read(words)?,
+            vertices: u32::read(words)?,
+            edges: u32::read(words)?,
+        };
+        let batch = u32::read(words)?;
+        let test = on_both(read_element(words)?);
+        let trial = on_both(read_element(words)?);
+        let forms = Forms::read(words)?;
+        let digits = [
+            words.digit()?,
+            words.digit()?,
+            words.digit()?,
+            words.digit()?,
+            words.digit()?,
+        ];
+        let integrand = forms.read_factors(words)?;
+        let assembly = Assembly {
+            test,
+            trial,
+            batch,
+            integrand,
+        };
+        Ok(Head {
+            sizes,
+            assembly,
+            digits,
+        })
     }
 }

@@ -1,57 +1,133 @@
-// The head of a case.
-ghost use Rattle.std.specs.Prelude.{◌≤◌};
-
-use full_reads::Source;
+// A case: what is played, and what must come of it.
 use function::{Element, Elements};
 use grid::Sizes;
 use planning::Assembly;
-use recorded::{digit_at, read_head, read_text};
-use std::fs::File;
+use recorded::{Head, PlanLengths, Recorded, Words, read_element};
+use std::alloc::Global;
+use std::{fmt, io};
 
-// What planning is given, whether the run is an entries run, and planning's refusal, or 0.
+// How many numbers encode a call.
+const CALL_NUMBERS: usize = 11;
+
+/// How long the lists of the sparse rows are, and what gathering the entries into them must answer: how many values are kept, or its refusal.
 #[derive(Clone, Copy)]
+pub struct Gathering {
+    pub starts: usize,
+    pub columns: usize,
+    pub values: usize,
+    pub answer: Result<u64, u32>,
+}
+
+/// What is planned and played, and what must be answered: the position after the last call or planning's refusal, and where gathering is asked what it answers.
+#[derive(Drop)]
 pub struct Case {
     pub sizes: Sizes,
     pub assembly: Assembly,
     pub entries: bool,
-    pub refusal: u32,
+    pub lengths: PlanLengths,
+    pub matrix_count: usize,
+    pub entry_count: usize,
+    pub answer_count: usize,
+    pub played: Result<u32, u32>,
+    pub gathering: Option<Gathering>,
+    pub kinds: Vec<u8>,
+    pub cell_vertices: Vec<u32>,
+    pub cell_edges: Vec<u32>,
+    pub calls: Vec<usize>,
+    pub pool: Vec<f64>,
 }
 
-// The elements of a side with another one for quads, its three numbers from digit i on.
-fn with_quads(elements: Elements, quads: &[u8; 17], i: usize) -> Elements
-    requires { i ≤ 13 }
-{
-    let triangle = elements.triangle;
-    let quad = Element {
-        a: digit_at(quads, i) as u32,
-        b: digit_at(quads, i + 1) as u32,
-        c: digit_at(quads, i + 2) as u32,
-    };
+// The elements of a side with another one for quads.
+fn with_quads(elements: Elements, quad: Element) -> Elements {
     Elements {
-        triangle: triangle,
-        quad: quad,
+        triangle: elements.triangle,
+        quad,
     }
 }
 
-pub fn read_case(file: &mut Source<File>) -> Case {
-    let head = read_head(file);
-    let quads = read_text(file);
-    let sizes = head.sizes;
-    let of_triangles = head.assembly;
-    let test = of_triangles.test;
-    let trial = of_triangles.trial;
-    let integrand = of_triangles.integrand;
-    let forms = head.forms;
-    let assembly = Assembly {
-        test: with_quads(test, &quads, 0),
-        trial: with_quads(trial, &quads, 3),
-        batch: of_triangles.batch,
-        integrand: integrand,
-    };
-    Case {
-        sizes: sizes,
-        assembly: assembly,
-        entries: digit_at(&forms, 11) == 1,
-        refusal: (16 * digit_at(&forms, 12) + digit_at(&forms, 13)) as u32,
+// What gathering must answer: nothing where it is not asked.
+fn read_gathered(words: &mut Words<'_>) -> io::Result<Option<Result<u64, u32>>> {
+    let form = u32::read(words)?;
+    let number = u32::read(words)?;
+    Ok(match form {
+        0 => None,
+        1 => Some(Ok(u64::from(number))),
+        _ => Some(Err(number)),
+    })
+}
+
+impl Case {
+    pub fn read(words: &mut Words<'_>, alloc: Global) -> io::Result<Self> {
+        let Head {
+            sizes,
+            assembly,
+            digits: [entries, high, low, _, _],
+        } = Head::read(words)?;
+
+        let test = with_quads(assembly.test, read_element(words)?);
+        let trial = with_quads(assembly.trial, read_element(words)?);
+
+        let lengths = PlanLengths::read(words)?;
+        let call_numbers = usize::read(words)?;
+        let pool = usize::read(words)?;
+        let matrix_count = usize::read(words)?;
+        let entry_count = usize::read(words)?;
+        let answer_count = usize::read(words)?;
+        let position = u32::read(words)?;
+        let starts = usize::read(words)?;
+        let columns = usize::read(words)?;
+        let values = usize::read(words)?;
+        let gathered = read_gathered(words)?;
+        let kinds = usize::read(words)?;
+        let refusal = 16 * u32::from(high) + u32::from(low);
+        Ok(Case {
+            sizes,
+            assembly: Assembly {
+                test,
+                trial,
+                ..assembly
+            },
+            entries: entries == 1,
+            lengths,
+            matrix_count,
+            entry_count,
+            answer_count,
+            played: if refusal == 0 {
+                Ok(position)
+            } else {
+                Err(refusal)
+            },
+            gathering: gathered.map(|answer| Gathering {
+                starts,
+                columns,
+                values,
+                answer,
+            }),
+            kinds: words.list(alloc, kinds)?,
+            cell_vertices: words.list(alloc, lengths.cell_vertices)?,
+            cell_edges: words.list(alloc, lengths.cell_vertices)?,
+            calls: words.list(alloc, call_numbers)?,
+            pool: words.list(alloc, pool)?,
+        })
+    }
+}
+
+impl fmt::Display for Case {
+    fn fmt<W: fmt::Write>(&self, f: &mut fmt::Formatter<W>) -> fmt::Result {
+        let cells = self.sizes.cells;
+        let calls = self.calls.len() / CALL_NUMBERS;
+        write!(f, "{cells} cells, {calls} calls, ")?;
+        match self.played {
+            Ok(position) => write!(f, "position {position}")?,
+            Err(refusal) => write!(f, "planning refuses {refusal}")?,
+        }
+        let entries = self.entry_count;
+        match self.gathering {
+            None => Ok(()),
+            Some(Gathering { answer, .. }) => match answer {
+                Ok(kept) => write!(f, ", {kept} values kept of {entries} entries"),
+                Err(refusal) => write!(f, ", gathering refuses {refusal}"),
+            },
+        }
     }
 }

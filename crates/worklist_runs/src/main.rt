@@ -5,25 +5,29 @@
 use std::fs::File;
 use std::io;
 
-fn answer(rt: &HostRuntime, name: &str) -> io::Result<()> {
-    let mut file = File::open(rt, name)?;
-    println!(rt; "{name}")?;
-    worklist_io::answer_file(rt, &mut file)
-}
+// The jobs.
+const NAMES: [&str; 14] = [
+    "m4",
+    "m5",
+    "m7_turned",
+    "m7_twice",
+    "m8",
+    "refused_1",
+    "refused_2",
+    "refused_3",
+    "refused_4",
+    "short",
+    "longer",
+    "large",
+    "large_short",
+    "large_longer",
+];
 
 fn main(rt: HostRuntime) -> io::Result<()> {
-    answer(&rt, "m4")?;
-    answer(&rt, "m5")?;
-    answer(&rt, "m7_turned")?;
-    answer(&rt, "m7_twice")?;
-    answer(&rt, "m8")?;
-    answer(&rt, "refused_1")?;
-    answer(&rt, "refused_2")?;
-    answer(&rt, "refused_3")?;
-    answer(&rt, "refused_4")?;
-    answer(&rt, "short")?;
-    answer(&rt, "longer")?;
-    answer(&rt, "large")?;
-    answer(&rt, "large_short")?;
-    answer(&rt, "large_longer")
+    for name in NAMES {
+        let mut file = File::open(&rt, name)?;
+        println!(rt; "{name}")?;
+        worklist_io::answer_file(&rt, &mut file)?;
+    }
+    Ok(())
 }
