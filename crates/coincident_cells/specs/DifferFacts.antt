@@ -1,12 +1,13 @@
 -- Laws of the test of cells with the same vertices, as the code makes it: a cell is held against the cells at one of its vertices. Assumes nothing.
-use Rattle.std.specs.Prelude.{ℕ, ◌+◌, ◌*◌, ◌<◌, ◌≤◌, ◌≡◌, Bool, true, false, cond, not, ◌⊎◌, List, length, get_or, eqb, ltb}
-use Rattle.std.proofs.Common.{arith, ap, subst, ◌∙◌, ⊎_elim, lt-ltb, ltb-true}
+use Rattle.std.specs.Prelude.{ℕ, ◌+◌, ◌*◌, ◌<◌, ◌≤◌, ◌≡◌, Bool, true, false, cond, not, ◌⊎◌, List, [], ◌∷◌, zero, suc, ◌||◌, length, get_or, eqb, ltb}
+use Rattle.std.proofs.Common.{arith, ap, subst, ◌∙◌, ⊎_elim, lt-ltb, ltb-true, eqb-true, eq-eqb, refl}
 use Rattle.std.proofs.Math.Path.{sym}
+use Rattle.std.specs.List.{list_any}
 use Rattle.std.proofs.lemmas.Bool.{not-true}
 use Rattle.lists.specs.Bool.{◌and◌, true≢false, cases, and_left, and_right, and_both, and_no_left, same_test}
 use Rattle.lists.specs.Bounded.{all, all_at, all_of}
 use Rattle.grid.specs.Cells.{has}
-use Rattle.grid.specs.CellsFacts.{has_at}
+use Rattle.grid.specs.CellsFacts.{has_at, has_place}
 use Rattle.grid.specs.Rows.{entity, cell_in}
 use Rattle.grid.specs.RowsFacts.{cell_length, cell_entity, cell_in_row}
 use Rattle.cells_by_key.specs.Groups.{cells_with, from, part, Cells, ByEntity}
@@ -16,6 +17,28 @@ use Rattle.cell_pairs.proofs.CoincidentFacts.{same_has}
 use Rattle.coincident_cells.specs.Differ.{earlier}
 
 -- ---- the same vertices, by two searches
+
+-- as the library's `contains` answers it
+pub is_has : (xs : List ℕ) (x : ℕ) → list_any (λ y. eqb y x) xs ≡ has xs x
+is_has xs x = same_test _ _ (λ e. let w = found xs e in has_at xs w.0 x w.1 w.2) (λ e. let w = has_place xs x e in at xs w.0 w.1 w.2)
+  where
+    found : (ys : List ℕ) → list_any (λ y. eqb y x) ys ≡ true → (k : ℕ) × (k < length ys) × (get_or ys k 0 ≡ x)
+    found [] e = absurd (true≢false (sym e))
+    found (y ∷ ys) e = go (eqb y x) refl e (found ys)
+      where
+        go : (b : Bool) → eqb y x ≡ b → b || list_any (λ y. eqb y x) ys ≡ true → (list_any (λ y. eqb y x) ys ≡ true → (k : ℕ) × (k < length ys) × (get_or ys k 0 ≡ x))
+            → (k : ℕ) × (k < length (y ∷ ys)) × (get_or (y ∷ ys) k 0 ≡ x)
+        go true h e more = (0, omega arith, eqb-true y x h)
+        go false h e more = let w = more e in (suc w.0, omega (arith, w.1), w.2)
+
+    at : (ys : List ℕ) (k : ℕ) → k < length ys → get_or ys k 0 ≡ x → list_any (λ y. eqb y x) ys ≡ true
+    at [] k l e = absurd (omega arith)
+    at (y ∷ ys) zero l e = rw (eq-eqb y x e)
+    at (y ∷ ys) (suc k) l e = go (at ys k (omega arith) e) (eqb y x)
+      where
+        go : list_any (λ y. eqb y x) ys ≡ true → (b : Bool) → b || list_any (λ y. eqb y x) ys ≡ true
+        go more true = refl
+        go more false = more
 
 abbrev pub inside_of : List ℕ → List ℕ → Bool
 inside_of xs ys = all (length xs) (λ p. has ys (get_or xs p 0))

@@ -1,22 +1,24 @@
--- See Invariants.antt. Assumes nothing.
-use mathlib.Core.Path.{sym, ap, ◌∙◌}
-use mathlib.Core.Bool.{not}
-use native.Mathlib.Omega.{arith}
-use Rattle.lists.specs.Bounded.{all_none, all_more, all_fails, all_done}
+-- `coincident_cells::alone` meets its contract. Assumes nothing.
+use Rattle.std.proofs.Common.{rules}
+use borrow.Author.Tests.{tests}
+use Rattle.std.proofs.lemmas.Iterator.{cases_from_all, YieldsList-from_slice}
+use Rattle.std.proofs.lemmas.Iterator.Adapters.{serves_from_places}
+use mathlib.Core.Bool.{true, false, not}
+use mathlib.Core.Path.{◌≡◌}
+use Prim.Native.Nat.{◌+◌, ◌*◌, ◌≤◌}
+use lib.ListN.{length}
+use Rattle.lists.specs.Items.{all_items}
+use Rattle.cells_by_key.specs.GroupsFacts.{cells_item}
+use Rattle.coincident_cells.specs.Differ.{earlier}
 use Rattle.coincident_cells.proofs.alone.Goals as goal
 
-pub loop-k-init : goal.loop-k-init
-loop-k-init c = (omega arith, all_none _)
-
-pub coincide-requires : goal.coincide-requires
-coincide-requires c =
-    (c.requires.i_in_bounds, rw c.wide.ensures (c.requires.cells.cell _ c.loop-k-test.true))
-
-pub returns-then-coincide : goal.returns-then-coincide
-returns-then-coincide c = sym (all_fails _ _ _ c.loop-k-test.true (ap not (sym (rw c.wide.ensures at c.coincide.ensures) ∙ c.if-coincide.true)))
-
-pub loop-k-preserved : goal.loop-k-preserved
-loop-k-preserved c = (omega arith, all_more _ _ c.loop-k.invariant.1 (ap not (sym (rw c.wide.ensures at c.coincide.ensures) ∙ c.if-coincide.false)))
+pub all-requires-clause-callable : goal.all-requires-clause-callable
+all-requires-clause-callable c =
+    serves_from_places (YieldsList-from_slice c.args.cells.now c.iter.ensures.rest) (λ x q k. search rules)
+    (λ x k l e. let h : 4 * x.now + 4 ≤ length c.args.rows.rows.now = cells_item c.requires.cells x.now k l e in search rules)
 
 pub returns : goal.returns
-returns c = all_done _ _ _ c.loop-k.invariant.1 (omega arith)
+returns c =
+    let test = λ (x : _). not (earlier c.args.rows.none c.args.rows.rows.now c.args.i x) in
+    all_items 0 test c.args.cells.now _
+    (cases_from_all _ _ _ (λ x. test x ≡ true) (λ x. test x ≡ false) c.all.ensures.ran (YieldsList-from_slice c.args.cells.now c.iter.ensures.rest) (λ x q k. search (rules, tests)) (λ x q k. search (rules, tests)))

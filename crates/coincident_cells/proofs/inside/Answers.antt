@@ -1,18 +1,20 @@
--- See Invariants.antt. Assumes nothing.
-use mathlib.Core.Path.{sym}
-use native.Mathlib.Omega.{arith}
-use Rattle.lists.specs.Bounded.{all_none, all_more, all_fails, all_done}
-use Rattle.lists.specs.Bool.{turned, passed}
+-- `coincident_cells::inside` meets its contract: each vertex is looked for among the others. Assumes nothing.
+use Rattle.std.proofs.Common.{rules, ◌∙◌}
+use borrow.Author.Tests.{tests}
+use lib.Dec.{eqb}
+use Rattle.std.specs.List.{list_any}
+use Rattle.std.proofs.lemmas.Iterator.{cases_from_all, YieldsList-from_slice}
+use mathlib.Core.Bool.{true, false}
+use mathlib.Core.Path.{◌≡◌}
+use Rattle.lists.specs.Bounded.{all_ext}
+use Rattle.lists.specs.Items.{all_items}
+use Rattle.coincident_cells.specs.DifferFacts.{is_has}
 use Rattle.coincident_cells.proofs.inside.Goals as goal
 
-pub loop-p-init : goal.loop-p-init
-loop-p-init c = (omega arith, all_none _)
-
-pub returns-then-not-has_vertex : goal.returns-then-not-has_vertex
-returns-then-not-has_vertex c = sym (all_fails _ _ _ c.loop-p-test.true (turned c.has_vertex.ensures c.if-not-has_vertex.true-raw))
-
-pub loop-p-preserved : goal.loop-p-preserved
-loop-p-preserved c = (omega arith, all_more _ _ c.loop-p.invariant.1 (passed c.has_vertex.ensures c.if-not-has_vertex.false-raw))
-
 pub returns : goal.returns
-returns c = all_done _ _ _ c.loop-p.invariant.1 (omega arith)
+returns c =
+    let others = c.args.other.now in
+    let test = λ (x : _). list_any (λ y. eqb y x) others in
+    all_items 0 test c.args.cell.now _
+    (cases_from_all _ _ _ (λ x. test x ≡ true) (λ x. test x ≡ false) c.all.ensures.ran (YieldsList-from_slice c.args.cell.now c.iter.ensures.rest) (λ x q k. search (rules, tests)) (λ x q k. search (rules, tests)))
+    ∙ all_ext _ _ _ (λ p l. is_has others _)

@@ -3,14 +3,14 @@ use mathlib.Core.Path.{refl}
 use mathlib.Core.Logic.{inl, inr}
 use Rattle.coincident_cells.proofs.rarer.Goals as goal
 
-pub size_of-requires : goal.size_of-requires
-size_of-requires c = record { v_in_bounds = c.requires.v_in_bounds.0; v_bound = c.requires.rise.rise _ c.requires.v_in_bounds.0 }
+pub size-requires : goal.size-requires
+size-requires c = record { v_in_bounds = c.requires.v_in_bounds.0; v_bound = c.requires.rise.rise _ c.requires.v_in_bounds.0 }
 
-pub size_of-requires-2 : goal.size_of-requires-2
-size_of-requires-2 c = record { v_in_bounds = c.requires.v_in_bounds.1; v_bound = c.requires.rise.rise _ c.requires.v_in_bounds.1 }
+pub size-requires-2 : goal.size-requires-2
+size-requires-2 c = record { v_in_bounds = c.requires.v_in_bounds.1; v_bound = c.requires.rise.rise _ c.requires.v_in_bounds.1 }
 
-pub returns-then-size_of : goal.returns-then-size_of
-returns-then-size_of c = inl refl
+pub returns-then-size : goal.returns-then-size
+returns-then-size c = inl refl
 
-pub returns-else-size_of : goal.returns-else-size_of
-returns-else-size_of c = inr refl
+pub returns-else-size : goal.returns-else-size
+returns-else-size c = inr refl

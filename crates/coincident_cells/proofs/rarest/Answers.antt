@@ -11,4 +11,4 @@ rarer-requires-2 c = record { v_in_bounds = (either_below c.rarer.ensures (rw c.
 
 pub returns : goal.returns
 returns c =
-    one_of_three c.args.rows.now c.args.i c.wide-x.ensures c.wide-y.ensures c.wide-z.ensures c.rarer.ensures c.rarer-2.ensures
+    one_of_three c.args.rows.rows.now c.args.i c.wide-x.ensures c.wide-y.ensures c.wide-z.ensures c.rarer.ensures c.rarer-2.ensures

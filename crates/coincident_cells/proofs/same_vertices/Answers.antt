@@ -6,4 +6,4 @@ pub returns-then-inside : goal.returns-then-inside
 returns-then-inside c = same_found _ _ c.inside.ensures c.if-inside.true c.inside-then-inside.ensures
 
 pub returns-else-inside : goal.returns-else-inside
-returns-else-inside c = same_missed _ _ c.inside.ensures c.if-inside.false
+returns-else-inside c = rw c.if-inside.false (same_missed _ _ c.inside.ensures c.if-inside.false)
