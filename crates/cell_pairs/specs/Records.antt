@@ -1,10 +1,15 @@
 -- A record of the work list, and how it lies in a list of numbers. Assumes nothing.
-use Rattle.std.specs.Prelude.{ℕ, ◌+◌, ◌*◌, List, [], ◌∷◌, get_or}
+use Rattle.std.specs.Prelude.{ℕ, ◌+◌, ◌*◌, ◌<◌, ◌≡◌, Option, None, Some, List, [], ◌∷◌, get_or}
 use Rattle.cell_pairs.specs.declared.WorkRecord.{WorkRecord}
 
 -- how many patterns touching pairs have: they are the numbers below it
 abbrev pub pattern_count : ℕ
 pattern_count = 149
+
+-- what a function answers for two cells whose pattern is n: the number, and None where the table has none, so n is one more than its last
+abbrev pub IsPattern : Option ℕ → ℕ → Type 0
+IsPattern None n = n ≡ pattern_count
+IsPattern (Some p) n = (p ≡ n) × (p < pattern_count)
 
 -- the pattern of a distant pair
 abbrev pub distant_pattern : ℕ

@@ -37,8 +37,8 @@ module _ (rows : List ℕ) (i j : ℕ) {a b c : ℕ} (e : a ≡ place (three row
   found_places d = rw (first_place_of, f, g) (places_of (three rows i) (three rows j) refl d)
 
   -- the pattern of these
-  pub found_pattern : distinct (three rows i) ≡ true → {r : ℕ} → r ≡ number_of (pattern 3 3 (matches_at a b c)) → r ≡ cells_pattern (three rows i) (three rows j)
-  found_pattern d h = h ∙ rw (first_place_of, f, g) (sym (pattern_at_lem rows i j d))
+  pub found_pattern : distinct (three rows i) ≡ true → number_of (pattern 3 3 (matches_at a b c)) ≡ cells_pattern (three rows i) (three rows j)
+  found_pattern d = rw (first_place_of, f, g) (sym (pattern_at_lem rows i j d))
 
 -- the pattern of three shared vertices
 abbrev pub three_pattern : ℕ → ℕ → ℕ → ℕ

@@ -1,10 +1,10 @@
 -- The 27 cases as the code writes them: the test places of trial vertices 0, 1 and 2, two bits each. Assumes nothing.
-use Rattle.std.specs.Prelude.{ℕ, ◌+◌, ◌*◌, ◌≡◌, refl, Bool, true, cond, List, [], ◌∷◌, eqb, ltb}
-use Rattle.std.proofs.Common.{sym, ap, ◌∙◌, eqb-true, ne_eqb}
+use Rattle.std.specs.Prelude.{ℕ, ◌+◌, ◌*◌, ◌≡◌, refl, Bool, true, cond, Option, List, [], ◌∷◌, eqb, ltb}
+use Rattle.std.proofs.Common.{sym, ap, subst, ◌∙◌, eqb-true, ne_eqb}
 use Rattle.lists.specs.Bool.{◌and◌, ◌or◌}
 use Rattle.lists.specs.Bounded.{all, least}
 use Rattle.grid.specs.Cells.{same_two}
-use Rattle.cell_pairs.specs.Records.{pattern_count}
+use Rattle.cell_pairs.specs.Records.{pattern_count, IsPattern}
 use Rattle.cell_pairs.specs.Matches.{Match, triangle_count, edge_of, pattern_of}
 use Rattle.cell_pairs.specs.Cases.{Case, cases, test_at}
 use Rattle.cell_pairs.specs.Table.{pattern, number_of as table_number}
@@ -50,5 +50,5 @@ none_number : (n d : ℕ) (T : Type 0) (cs : List Case) → NoneOf n T cs → (d
 none_number n d T [] h = (refl, h)
 none_number n d T (c ∷ cs) h = let r = none_number n d (T × (n ≡ bits c.shared → ⊥)) cs h in (rw (ne_eqb _ _ r.1.1) r.0, r.1.0)
 
-pub last_arm : {a b c : ℕ} → Places a b c → NoneOf (16 * a + 4 * b + c) (Unit {0}) cases → {r : ℕ} → r ≡ three_pattern a b c → r ≡ table_number (pattern 3 3 (matches_at a b c))
-last_arm {a} {b} {c} h none e = e ∙ (none_number (16 * a + 4 * b + c) (three_pattern a b c) (Unit {0}) cases none).0 ∙ number_is h
+pub last_arm : {a b c : ℕ} → Places a b c → NoneOf (16 * a + 4 * b + c) (Unit {0}) cases → (r : Option ℕ) → IsPattern r (three_pattern a b c) → IsPattern r (table_number (pattern 3 3 (matches_at a b c)))
+last_arm {a} {b} {c} h none r e = subst (IsPattern r) ((none_number (16 * a + 4 * b + c) (three_pattern a b c) (Unit {0}) cases none).0 ∙ number_is h) e

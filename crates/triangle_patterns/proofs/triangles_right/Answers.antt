@@ -6,16 +6,16 @@ use Rattle.triangle_patterns.specs.TrianglesFacts.{first_missing, second_missing
 use Rattle.triangle_patterns.proofs.triangles_right.Goals as goal
 
 pub returns-then-not-has_entity : goal.returns-then-not-has_entity
-returns-then-not-has_entity c = first_missing c.args.rows.now c.args.i c.args.j c.requires.i_value.0 c.requires.i_value.1 c.requires.by_index c.has_entity.ensures c.if-not-has_entity.true-raw
+returns-then-not-has_entity c = first_missing c.args.rows.rows.now c.args.i c.args.j c.requires.i_value.0 c.requires.i_value.1 c.requires.by_index c.has_entity.ensures c.if-not-has_entity.true-raw
 
 pub returns-then-not-has_entity-2 : goal.returns-then-not-has_entity-2
-returns-then-not-has_entity-2 c = second_missing c.args.rows.now c.args.i c.args.j c.requires.i_value.0 c.requires.i_value.1 c.requires.by_index c.has_entity-2.ensures c.if-not-has_entity-2.true-raw
+returns-then-not-has_entity-2 c = second_missing c.args.rows.rows.now c.args.i c.args.j c.requires.i_value.0 c.requires.i_value.1 c.requires.by_index c.has_entity-2.ensures c.if-not-has_entity-2.true-raw
 
 pub returns-then-not-has_entity-3 : goal.returns-then-not-has_entity-3
-returns-then-not-has_entity-3 c = third_missing c.args.rows.now c.args.i c.args.j c.requires.i_value.0 c.requires.i_value.1 c.requires.by_index c.has_entity-3.ensures c.if-not-has_entity-3.true-raw
+returns-then-not-has_entity-3 c = third_missing c.args.rows.rows.now c.args.i c.args.j c.requires.i_value.0 c.requires.i_value.1 c.requires.by_index c.has_entity-3.ensures c.if-not-has_entity-3.true-raw
 
 pub returns : goal.returns
 unfolding ◌and◌
 returns c =
-    let e = none_missing c.args.rows.now c.args.i c.args.j c.requires.i_value.0 c.requires.i_value.1 c.requires.by_index c.has_entity.ensures c.if-not-has_entity.false-raw c.has_entity-2.ensures c.if-not-has_entity-2.false-raw in
+    let e = none_missing c.args.rows.rows.now c.args.i c.args.j c.requires.i_value.0 c.requires.i_value.1 c.requires.by_index c.has_entity.ensures c.if-not-has_entity.false-raw c.has_entity-2.ensures c.if-not-has_entity-2.false-raw in
     sym (e c.has_entity-3.ensures c.if-not-has_entity-3.false-raw ∙ simp add-zero)
