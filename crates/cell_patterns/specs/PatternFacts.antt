@@ -53,6 +53,10 @@ module _ (none : ℕ) (rows : List ℕ) where
 
 -- ---- check 7, by vertex
 
+-- test cell i against each cell of a list
+unfoldable pub row_right : ℕ → List ℕ → List ℕ → ℕ → Bool
+row_right none rows cells i = all (length cells) (λ l. pair_right none rows i (get_or cells l 0))
+
 -- each cell of a list against each
 unfoldable pub group_right : ℕ → List ℕ → List ℕ → Bool
 group_right none rows cells = all (length cells) (λ k. all (length cells) (λ l. pair_right none rows (get_or cells k 0) (get_or cells l 0)))

@@ -1,7 +1,8 @@
 -- Laws of the shared vertices of two cells, as the code makes their list. Assumes nothing.
-use Rattle.std.specs.Prelude.{ℕ, zero, suc, ◌+◌, ◌<◌, ◌≤◌, ◌≡◌, refl, Bool, false, not, length, get_or, set, eqb}
+use Rattle.std.specs.Prelude.{ℕ, zero, suc, ◌+◌, ◌<◌, ◌≤◌, ◌≡◌, refl, Bool, false, not, Option, None, Some, length, get_or, set, eqb}
 use Rattle.std.proofs.Common.{add-one, arith, sym, ap₂, subst, ◌∙◌, ⊎_elim, length-append, get_or-set_same, get_or-set_other, eqb-true, eq-eqb, ne_eqb, lt-ltb, le-ltb}
 use Rattle.std.proofs.Math.Path.{ap}
+use Rattle.std.specs.Option.{is_some}
 use Rattle.std.proofs.Math.Bool.{true}
 use mathlib.Core.List.{List, [], ◌∷◌, ◌++◌, flat_map, append-nil}
 use Rattle.std.proofs.lemmas.List.{length-map}
@@ -13,7 +14,7 @@ use Rattle.grid.specs.Cells.{distinct, share}
 use Rattle.grid.specs.CellsFacts.{has_place, has_at, share_which, share_at}
 use Rattle.grid.specs.Facts.{vertices_differ}
 use Rattle.cell_pairs.specs.Matches.{Match, ◌⇄◌, matches}
-use Rattle.cell_pairs.specs.Records.{pattern_count}
+use Rattle.cell_pairs.specs.Records.{pattern_count, IsPattern}
 use Rattle.cell_pairs.specs.Table.{pattern, number_of}
 use Rattle.triangle_patterns.specs.Triangles.{cells_right}
 use Rattle.cell_patterns.specs.Shared.{listed, place_in}
@@ -232,6 +233,11 @@ share_some xs ys = ⊎_elim (λ s. s ∙ sym (lt-ltb 0 _ (more s))) (λ s. s ∙
         ∙ flat_map_nil (λ _. []) (λ _. refl) (range (length xs)))
         ∙ flat_map_nil (λ _. []) (λ _. refl) (range (length ys))
 
+-- there is a pattern where the number is one of the table
+is_known : (r : Option ℕ) (n : ℕ) → IsPattern r n → is_some r ≡ ltb n pattern_count
+is_known None n h = sym (le-ltb n pattern_count (omega arith))
+is_known (Some p) n h = sym (lt-ltb n pattern_count (omega (arith, h.0, h.1)))
+
 module _ (xs ys : List ℕ) (n : ℕ) (ts rs : List ℕ) (e : listed n ts rs ≡ matches xs ys) where
   many : length (matches xs ys) ≡ n
   many = ap length (sym e) ∙ length_listed n ts rs
@@ -241,8 +247,8 @@ module _ (xs ys : List ℕ) (n : ℕ) (ts rs : List ℕ) (e : listed n ts rs ≡
       let s : share xs ys ≡ false = share_some xs ys ∙ rw (many, z) in
       sym (or_left _ _ (ap not s))
 
-  pub some_shared : (n ≡ 0 → ⊥) → {r : ℕ} → r ≡ number_of (pattern (length xs) (length ys) (listed n ts rs)) → ltb r pattern_count ≡ cells_right xs ys
+  pub some_shared : (n ≡ 0 → ⊥) → (r : Option ℕ) → IsPattern r (number_of (pattern (length xs) (length ys) (listed n ts rs))) → is_some r ≡ cells_right xs ys
   unfolding ◌or◌
-  some_shared z {r} f =
+  some_shared z r f =
       let s : share xs ys ≡ true = share_some xs ys ∙ rw many (lt-ltb 0 n (⊎_elim (λ l. l) (λ l. absurd (z (omega arith))) (lt_or_le 0 n))) in
-      rw s (ap (λ (k : ℕ). ltb k pattern_count) (f ∙ ap (λ (ms : List Match). number_of (pattern (length xs) (length ys) ms)) e))
+      rw s (is_known r _ f ∙ ap (λ (ms : List Match). ltb (number_of (pattern (length xs) (length ys) ms)) pattern_count) e)

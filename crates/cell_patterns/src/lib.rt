@@ -10,12 +10,13 @@ ghost use Rattle.lists.specs.Bounded.{all};
 ghost use Rattle.grid.specs.Rows.{entity};
 ghost use Rattle.grid.specs.RowsFacts.{Padded};
 ghost use Rattle.grid.specs.Mesh.{most_cells, most_vertices};
+ghost use Rattle.cell_pairs.specs.Records.{IsPattern};
 ghost use Rattle.cells_by_key.specs.Groups.{Cells, Cut, Below, Zeros, part};
 ghost use Rattle.cell_patterns.specs.Flat.{distinct_in, pattern_in, smallest_in, pair_right, patterns_in};
-ghost use Rattle.cell_patterns.specs.PatternFacts.{Apart, group_right, lower};
+ghost use Rattle.cell_patterns.specs.PatternFacts.{Apart, row_right, group_right, lower};
 
-use cells_by_key::{by_key, part_of};
-use grid::{MOST_CELLS, MOST_VERTICES, cell_of, has_entity, is_triangle};
+use cells_by_key::{Groups, by_key};
+use grid::{MOST_CELLS, MOST_VERTICES, Rows};
 use numbers::wide;
 use shared::{cells_pattern, cells_right};
 use triangle_patterns::{triangles_pattern, triangles_right};
@@ -23,132 +24,124 @@ use triangle_patterns::{triangles_pattern, triangles_right};
 // ---- rows
 
 // Whether cells i and j are both triangles.
-fn both_triangles(rows: &[u32], none: u32, i: usize, j: usize) -> bool
-    requires { (4 * i + 4 ≤ length rows.now) × (4 * j + 4 ≤ length rows.now) }
-    ensures { result ≡ (eqb (entity rows.now i 3) none and eqb (entity rows.now j 3) none) }
+fn both_triangles(rows: Rows<'_>, i: usize, j: usize) -> bool
+    requires { (4 * i + 4 ≤ length rows.rows.now) × (4 * j + 4 ≤ length rows.rows.now) }
+    ensures { result ≡ (eqb (entity rows.entry.rows.now i 3) rows.entry.none and eqb (entity rows.entry.rows.now j 3) rows.entry.none) }
 {
-    is_triangle(rows, none, i) & is_triangle(rows, none, j)
+    rows.is_triangle(i) & rows.is_triangle(j)
 }
 
-// The pattern of test cell i and trial cell j, NO_PATTERN where it is none of the table. No cell may have a vertex twice.
-pub fn pattern_of(rows: &[u32], none: u32, i: usize, j: usize) -> u32
-    requires i_in_bounds { (4 * i + 4 ≤ length rows.now) × (4 * j + 4 ≤ length rows.now) }
-    requires i_value { (distinct_in none rows.now i ≡ true) × (distinct_in none rows.now j ≡ true) }
-    ensures { result ≡ pattern_in none rows.now i j }
+// The pattern of test cell i and trial cell j, if the table has it. No cell may have a vertex twice.
+pub fn pattern_of(rows: Rows<'_>, i: usize, j: usize) -> Option<u32>
+    requires i_in_bounds { (4 * i + 4 ≤ length rows.rows.now) × (4 * j + 4 ≤ length rows.rows.now) }
+    requires i_value { (distinct_in rows.none rows.rows.now i ≡ true) × (distinct_in rows.none rows.rows.now j ≡ true) }
+    ensures { IsPattern result (pattern_in rows.entry.none rows.entry.rows.now i j) }
 {
-    if both_triangles(rows, none, i, j) {
+    if both_triangles(rows, i, j) {
         triangles_pattern(rows, i, j)
     } else {
-        cells_pattern(cell_of(rows, none, i), cell_of(rows, none, j))
+        cells_pattern(rows.cell(i), rows.cell(j))
     }
 }
 
-// x if it counts and is below m, else m.
+// The lower of x and m, if x counts, else m.
 fn lower_of(counts: bool, x: usize, m: usize) -> usize
     ensures { result ≡ lower counts x m }
 {
     if counts & (x < m) { x } else { m }
 }
 
-// The smallest vertex, below top, that cells i and j share; top where they share none. The fourth number of a triangle is top, which is no lower than what is
-// found before it.
-pub fn smallest_shared(rows: &[u32], top: usize, i: usize, j: usize) -> usize
-    requires { (4 * i + 4 ≤ length rows.now) × (4 * j + 4 ≤ length rows.now) }
-    ensures { result ≡ smallest_in top rows.now i j }
+// The smallest vertex that cells i and j share; `none`, which is above all vertices, where they share none. It stands in the fourth place of a triangle too, and
+// is no lower than what is found before it.
+pub fn smallest_shared(rows: Rows<'_>, i: usize, j: usize) -> usize
+    requires { (4 * i + 4 ≤ length rows.rows.now) × (4 * j + 4 ≤ length rows.rows.now) }
+    ensures { result ≡ smallest_in rows.entry.none rows.entry.rows.now i j }
 {
     let at = 4 * i;
-    let x = rows[at];
-    let y = rows[at + 1];
-    let z = rows[at + 2];
-    let w = rows[at + 3];
-    let l = lower_of(has_entity(rows, j, x), wide(x), top);
-    let m = lower_of(has_entity(rows, j, y), wide(y), l);
-    let n = lower_of(has_entity(rows, j, z), wide(z), m);
-    lower_of(has_entity(rows, j, w), wide(w), n)
+    let x = rows.rows[at];
+    let y = rows.rows[at + 1];
+    let z = rows.rows[at + 2];
+    let w = rows.rows[at + 3];
+    let none = wide(rows.none);
+    let l = lower_of(rows.has_entity(j, x), wide(x), none);
+    let m = lower_of(rows.has_entity(j, y), wide(y), l);
+    let n = lower_of(rows.has_entity(j, z), wide(z), m);
+    lower_of(rows.has_entity(j, w), wide(w), n)
 }
 
 // ---- check 7
 
 // Whether cells i and j share no vertex or have a pattern.
-fn pair_right(rows: &[u32], none: u32, i: usize, j: usize) -> bool
-    requires i_in_bounds { (4 * i + 4 ≤ length rows.now) × (4 * j + 4 ≤ length rows.now) }
-    requires apart { Apart none rows.now }
-    ensures { result ≡ pair_right none rows.now i j }
+fn pair_right(rows: Rows<'_>, i: usize, j: usize) -> bool
+    requires i_in_bounds { (4 * i + 4 ≤ length rows.rows.now) × (4 * j + 4 ≤ length rows.rows.now) }
+    requires apart { Apart rows.none rows.rows.now }
+    ensures { result ≡ pair_right rows.entry.none rows.entry.rows.now i j }
 {
-    if both_triangles(rows, none, i, j) {
+    if both_triangles(rows, i, j) {
         triangles_right(rows, i, j)
     } else {
-        cells_right(cell_of(rows, none, i), cell_of(rows, none, j))
+        cells_right(rows.cell(i), rows.cell(j))
     }
 }
 
 // Check 7 of test cell i against the cells of a list.
-fn row_right(rows: &[u32], none: u32, cells: &[u32], i: usize) -> bool
-    requires cells { Cells rows.now cells.now }
-    requires apart { Apart none rows.now }
-    requires i_in_bounds { 4 * i + 4 ≤ length rows.now }
-    ensures { result ≡ all (length cells.now) (λ k. pair_right none rows.now i (get_or cells.now k 0)) }
+fn row_right(rows: Rows<'_>, cells: &[u32], i: usize) -> bool
+    requires cells { Cells rows.rows.now cells.now }
+    requires apart { Apart rows.none rows.rows.now }
+    requires i_in_bounds { 4 * i + 4 ≤ length rows.rows.now }
+    ensures { result ≡ row_right rows.entry.none rows.entry.rows.now cells.now i }
 {
-    for k in 0..cells.len() {
-        if !pair_right(rows, none, i, wide(cells[k])) {
-            return false;
-        }
-    }
-    true
+    cells.iter().all(|&j| pair_right(rows, i, wide(j)))
 }
 
 // Check 7 of the cells of a list against each other.
-fn group_right(rows: &[u32], none: u32, cells: &[u32]) -> bool
-    requires cells { Cells rows.now cells.now }
-    requires apart { Apart none rows.now }
-    ensures { result ≡ group_right none rows.now cells.now }
+fn group_right(rows: Rows<'_>, cells: &[u32]) -> bool
+    requires cells { Cells rows.rows.now cells.now }
+    requires apart { Apart rows.none rows.rows.now }
+    ensures { result ≡ group_right rows.entry.none rows.entry.rows.now cells.now }
 {
-    for k in 0..cells.len() {
-        if !row_right(rows, none, cells, wide(cells[k])) {
-            return false;
-        }
-    }
-    true
+    cells.iter().all(|&i| row_right(rows, cells, wide(i)))
 }
 
-// Check 7 of the cells at each vertex. `order` holds the cells at vertex 0, then those at vertex 1 and so on, and `ends` where each vertex's end.
-fn groups_right(rows: &[u32], none: u32, order: &[u32], ends: &[usize]) -> bool
-    requires cut { Cut rows.now order.now ends.now }
-    requires apart { Apart none rows.now }
-    requires none_in_bounds { none ≤ length ends.now }
-    ensures { result ≡ all none (λ v. group_right none rows.now (part order.now ends.now v)) }
+// Check 7 of the cells at each vertex. The groups are the cells at vertex 0, then those at vertex 1 and so on.
+fn groups_right(rows: Rows<'_>, groups: Groups<'_>) -> bool
+    requires cut { Cut rows.rows.now groups.order.now groups.ends.now }
+    requires apart { Apart rows.none rows.rows.now }
+    requires none_in_bounds { rows.none ≤ length groups.ends.now }
+    ensures { result ≡ all rows.entry.none (λ v. group_right rows.entry.none rows.entry.rows.now (part groups.entry.order.now groups.entry.ends.now v)) }
 {
-    for v in 0..wide(none) {
-        if !group_right(rows, none, part_of(order, ends, v)) {
-            return false;
-        }
-    }
-    true
+    (0..wide(rows.none)).all(|v| group_right(rows, groups.group(v)))
 }
 
 // Check 7, by way of two lists: the cells by vertex and where each vertex's end, last those of `none`.
-fn sorted_right(rows: &[u32], none: u32, order: &mut [u32], ends: &mut [usize]) -> bool
-    requires below { Below rows.now (length ends.old) }
+fn sorted_right(rows: Rows<'_>, order: &mut [u32], ends: &mut [usize]) -> bool
+    requires below { Below rows.rows.now (length ends.old) }
     requires zeros { Zeros ends.old }
-    requires rows_len { (length rows.now ≡ 4 * (length rows.now / 4)) × (length rows.now < 2 ^ 32) × (length order.old ≡ length rows.now) × (length ends.old ≡ none + 1) }
-    requires apart { Apart none rows.now }
-    ensures { result ≡ patterns_in none (length rows.now / 4) rows.now }
+    requires rows_len { (length rows.rows.now ≡ 4 * (length rows.rows.now / 4)) × (length rows.rows.now < 2 ^ 32) × (length order.old ≡ length rows.rows.now) × (length ends.old ≡ rows.none + 1) }
+    requires apart { Apart rows.none rows.rows.now }
+    ensures { result ≡ patterns_in rows.entry.none (length rows.entry.rows.now / 4) rows.entry.rows.now }
 {
-    by_key(rows, 4, ends, order);
-    groups_right(rows, none, order, ends)
+    by_key(rows.rows, 4, ends, order);
+    groups_right(
+        rows,
+        Groups {
+            order: order,
+            ends: ends,
+        },
+    )
 }
 
-// Check 7: each ordered pair of cells that shares a vertex has a pattern of the table. The vertices of the cells are below top, which stands in the fourth place of
-// a triangle.
-pub fn patterns_right(cells: usize, top: usize, rows: &[u32]) -> bool
-    requires rows_len { (length rows.now ≡ 4 * cells) × (cells ≤ most_cells) × (top ≤ most_vertices) }
-    requires below { Below rows.now (top + 1) }
-    requires padded { Padded top rows.now }
-    requires by_index { (k : ℕ) → k < cells → distinct_in top rows.now k ≡ true }
-    ensures { result ≡ patterns_in top cells rows.now }
+// Check 7: each ordered pair of cells that shares a vertex has a pattern of the table. The vertices of the cells are below `none`.
+pub fn patterns_right(cells: usize, rows: Rows<'_>) -> bool
+    requires rows_len { (length rows.rows.now ≡ 4 * cells) × (cells ≤ most_cells) × (rows.none ≤ most_vertices) }
+    requires below { Below rows.rows.now (rows.none + 1) }
+    requires padded { Padded rows.none rows.rows.now }
+    requires by_index { (k : ℕ) → k < cells → distinct_in rows.none rows.rows.now k ≡ true }
+    ensures { result ≡ patterns_in rows.entry.none cells rows.entry.rows.now }
 {
     let n = 4 * cells;
+    let groups = wide(rows.none) + 1;
     let mut order = [0u32; 4 * MOST_CELLS];
     let mut ends = [0usize; MOST_VERTICES + 1];
-    sorted_right(rows, top as u32, &mut order[..n], &mut ends[..top + 1])
+    sorted_right(rows, &mut order[..n], &mut ends[..groups])
 }

@@ -5,6 +5,7 @@ ghost use Rattle.lists.specs.Range.{when};
 ghost use Rattle.grid.specs.Cells.{distinct};
 ghost use Rattle.cell_pairs.specs.Matches.{◌⇄◌, matches};
 ghost use Rattle.cell_pairs.specs.Patterns.{cells_pattern};
+ghost use Rattle.cell_pairs.specs.Records.{IsPattern};
 ghost use Rattle.cell_pairs.specs.Table.{pattern, number_of, block_start, in_block};
 ghost use Rattle.triangle_patterns.specs.Triangles.{cells_right};
 ghost use Rattle.pattern_table.specs.Numbers.{code_of};
@@ -144,25 +145,25 @@ fn in_block(n: u32, k: u32, s: Shared) -> u32
     3 * (n * k)
 }
 
-// The number of the pattern of two kinds and their shared vertices: the formula's, if the table has their code there, else NO_PATTERN.
-fn number_of(n: u32, k: u32, s: Shared) -> u32
+// The number of the pattern of two kinds and their shared vertices: the formula's, if the table has their code there.
+fn number_of(n: u32, k: u32, s: Shared) -> Option<u32>
     requires le_n { (3 ≤ n) × (n ≤ 4) × (3 ≤ k) × (k ≤ 4) × (s.pairs ≤ 4) }
     requires small { Small s.tests s.trials }
-    ensures { result ≡ number_of (pattern n k (listed s.pairs s.tests s.trials)) }
+    ensures { IsPattern result (number_of (pattern n k (listed s.pairs s.tests s.trials))) }
 {
     let r = block_start(n, k) + in_block(n, k, s);
     if r < NO_PATTERN {
         if table_row(r as usize) == code_of(n, k, s) {
-            return r;
+            return Some(r);
         }
     }
-    NO_PATTERN
+    None
 }
 
-// The pattern of a test cell and a trial cell, NO_PATTERN where it is none of the table. The test cell has no vertex twice.
-pub(crate) fn cells_pattern(test: &[u32], trial: &[u32]) -> u32
+// The pattern of a test cell and a trial cell, if the table has it. The test cell has no vertex twice.
+pub(crate) fn cells_pattern(test: &[u32], trial: &[u32]) -> Option<u32>
     requires { (3 ≤ length test.now) × (length test.now ≤ 4) × (3 ≤ length trial.now) × (length trial.now ≤ 4) × (distinct test.now ≡ true) }
-    ensures { result ≡ cells_pattern test.now trial.now }
+    ensures { IsPattern result (cells_pattern test.now trial.now) }
 {
     let n = test.len() as u32;
     let k = trial.len() as u32;
@@ -180,5 +181,5 @@ pub(crate) fn cells_right(test: &[u32], trial: &[u32]) -> bool
     if s.pairs == 0 {
         return true;
     }
-    number_of(n, k, s) < NO_PATTERN
+    number_of(n, k, s).is_some()
 }

@@ -1,25 +1,26 @@
--- See Invariants.antt. Assumes nothing.
-use mathlib.Core.Path.{sym}
+-- `cell_patterns::row_right` meets its contract. Assumes nothing.
+use Rattle.std.proofs.Common.{rules}
+use borrow.Author.Tests.{tests}
+use Rattle.std.proofs.lemmas.Iterator.{cases_from_all, YieldsList-from_slice}
+use Rattle.std.proofs.lemmas.Iterator.Adapters.{serves_from_places}
+use mathlib.Core.Bool.{true, false}
+use mathlib.Core.Path.{◌≡◌}
 use Prim.Native.Nat.{◌+◌, ◌*◌, ◌≤◌}
-use native.Mathlib.Omega.{arith}
 use lib.ListN.{length}
-use Rattle.lists.specs.Bool.{turned, passed}
-use Rattle.lists.specs.Bounded.{all_none, all_more, all_fails, all_done}
+use Rattle.lists.specs.Items.{all_items}
+use Rattle.cells_by_key.specs.GroupsFacts.{cells_item}
+use Rattle.cell_patterns.specs.Flat.{pair_right}
+use Rattle.cell_patterns.specs.PatternFacts.{row_right}
 use Rattle.cell_patterns.proofs.row_right.Goals as goal
 
-pub loop-k-init : goal.loop-k-init
-loop-k-init c = (omega arith, all_none _)
-
-pub pair_right-requires : goal.pair_right-requires
-pair_right-requires c =
-    let cell : 4 * c.wide.result + 4 ≤ length c.args.rows.now = rw c.wide.ensures (c.requires.cells.cell _ c.loop-k-test.true) in
-    record { i_in_bounds = (c.requires.i_in_bounds, cell); apart = c.requires.apart }
-
-pub returns-then-not-pair_right : goal.returns-then-not-pair_right
-returns-then-not-pair_right c = sym (all_fails _ _ _ c.loop-k-test.true (turned (rw c.wide.ensures at c.pair_right.ensures) c.if-not-pair_right.true-raw))
-
-pub loop-k-preserved : goal.loop-k-preserved
-loop-k-preserved c = (omega arith, all_more _ _ c.loop-k.invariant.1 (passed (rw c.wide.ensures at c.pair_right.ensures) c.if-not-pair_right.false-raw))
+pub all-requires-clause-callable : goal.all-requires-clause-callable
+all-requires-clause-callable c =
+    serves_from_places (YieldsList-from_slice c.args.cells.now c.iter.ensures.rest) (λ x q k. search rules)
+    (λ x k l e. let h : 4 * x.now + 4 ≤ length c.args.rows.rows.now = cells_item c.requires.cells x.now k l e in search rules)
 
 pub returns : goal.returns
-returns c = all_done _ _ _ c.loop-k.invariant.1 (omega arith)
+unfolding row_right
+returns c =
+    let test = λ (j : _). pair_right c.args.rows.none c.args.rows.rows.now c.args.i j in
+    all_items 0 test c.args.cells.now _
+    (cases_from_all _ _ _ (λ j. test j ≡ true) (λ j. test j ≡ false) c.all.ensures.ran (YieldsList-from_slice c.args.cells.now c.iter.ensures.rest) (λ x q k. search (rules, tests)) (λ x q k. search (rules, tests)))

@@ -1,7 +1,8 @@
 -- `cell_patterns::shared::cells_pattern` meets its contract. Assumes nothing.
-use mathlib.Core.Path.{ap, ◌∙◌}
+use mathlib.Core.Path.{subst}
 use mathlib.Core.List.{List}
 use lib.ListN.{length}
+use Rattle.cell_pairs.specs.Records.{IsPattern}
 use Rattle.cell_pairs.specs.Matches.{Match}
 use Rattle.cell_pairs.specs.Table.{pattern, number_of}
 use Rattle.cell_patterns.proofs.shared.cells_pattern.Goals as goal
@@ -10,4 +11,6 @@ pub number_of-requires : goal.number_of-requires
 number_of-requires c = record { le_n = (c.requires.0, c.requires.1, c.requires.2, c.requires.3, c.matches_of.ensures.1); small = c.matches_of.ensures.2 }
 
 pub returns : goal.returns
-returns c = let a = c.args in c.number_of.ensures ∙ ap (λ (ms : List Match). number_of (pattern (length a.test.now) (length a.trial.now) ms)) c.matches_of.ensures.0
+returns c =
+    let a = c.args in
+    subst (λ (ms : List Match). IsPattern c.number_of.result (number_of (pattern (length a.test.now) (length a.trial.now) ms))) c.matches_of.ensures.0 c.number_of.ensures
