@@ -4,10 +4,8 @@ use Rattle.std.proofs.Common.{arith, sym, ap, ◌∙◌, ⊎_elim, length-take, 
 use Rattle.std.proofs.lemmas.Bool.{eqb-false, lt-leb}
 use Rattle.lists.specs.Bool.{◌and◌, ◌or◌, every, every_at, every_fails, every_of, ◌also◌, end, true≢false, cases, or_left, or_none}
 use Rattle.lists.specs.Refusals.{refusal, unless, answers, refused}
-use Rattle.job.specs.declared.HeadRead.{HeadRead}
-use Rattle.job.specs.declared.HeadRead.TheVariants.{Cells, Refused}
 use Rattle.job.specs.Job.{rest_length, version, cell_count, most_worklist_cells, job_right, job_small, job_refusal}
-use Rattle.job.specs.Head.{head_right, head_answer, read_head, head_number, head_cells, Says, size_refusal, enough_bytes}
+use Rattle.job.specs.Head.{HeadRead, Cells, Refused, head_right, head_answer, read_head, head_number, head_cells, Says, size_refusal, enough_bytes}
 
 -- ---- the code's tests
 

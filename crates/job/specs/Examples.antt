@@ -3,8 +3,7 @@ use Rattle.std.specs.Prelude.{ℕ, refl, true, false, List, [], ◌∷◌, ◌++
 use Rattle.lists.specs.Examples.{Example, example, Holds, opened_lists}
 use Rattle.grid.specs.Examples.{mesh_m}
 use Rattle.function.specs.Examples.{element}
-use Rattle.job.specs.declared.JobRead.TheVariants.{Whole}
-use Rattle.job.specs.Job.{job_right, job_small, job_refusal, read_job, read_number, front, vertex_list_of, edge_list_of}
+use Rattle.job.specs.Job.{Whole, job_right, job_small, job_refusal, read_job, read_number, front, vertex_list_of, edge_list_of}
 
 -- opens the definitions of this crate and of `lists`
 unfoldable pub opened_job : Unit {0}

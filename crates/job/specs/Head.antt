@@ -2,13 +2,16 @@
 use Rattle.std.specs.Prelude.{ℕ, ◌+◌, ◌*◌, ◌≡◌, Bool, true, false, cond, List, [], ◌∷◌, length, leb, eqb}
 use Rattle.lists.specs.Bool.{every}
 use Rattle.lists.specs.Refusals.{check, refusal}
-use Rattle.job.specs.declared.HeadRead.{HeadRead}
-use Rattle.job.specs.declared.HeadRead.TheVariants.{Cells, Refused}
 use Rattle.job.specs.Job.{rest_length, version, cell_count, most_worklist_cells}
 
 -- they are there, version is 1, and the length is 15 + 12C
 unfoldable pub head_right : List ℕ → Bool
 head_right s = every (leb 7 (length s) ∷ eqb (version s) 1 ∷ eqb (rest_length s) (15 + 12 * cell_count s) ∷ [])
+
+-- what they say: C, or the paper's number of a refusal
+pub data HeadRead : Type 0 where
+  Cells : ℕ → HeadRead
+  Refused : ℕ → HeadRead
 
 abbrev pub head_answer : Bool → ℕ → HeadRead
 head_answer true C = Cells C
@@ -18,7 +21,7 @@ head_answer false C = Refused 12
 unfoldable pub read_head : List ℕ → HeadRead
 read_head s = head_answer (head_right s) (cell_count s)
 
--- for each case of the enum: the paper's number, 0 where they are right, and the value, 0 where they are refused
+-- for each case: the paper's number, 0 where they are right, and the value, 0 where they are refused
 abbrev pub head_number : HeadRead → ℕ
 head_number (Cells C) = 0
 head_number (Refused n) = n

@@ -6,8 +6,6 @@ use Rattle.lists.specs.Range.{range}
 use Rattle.lists.specs.Refusals.{Check, check, refusal}
 use Rattle.function.specs.declared.Element.{Element}
 use Rattle.job.specs.declared.JobNumbers.{JobNumbers}
-use Rattle.job.specs.declared.JobRead.{JobRead}
-use Rattle.job.specs.declared.JobRead.TheVariants.{Whole, Refused}
 
 -- byte k, and the numbers of 2 and of 4 bytes from byte k on
 abbrev pub byte : List ℕ → ℕ → ℕ
@@ -77,6 +75,11 @@ job_checks s limited = check 12 (job_right s) ∷ check 13 (job_small s limited)
 unfoldable pub job_refusal : List ℕ → Bool → ℕ
 job_refusal s limited = refusal (job_checks s limited)
 
+-- what reading a job answers: its numbers, or the paper's number of a refusal
+pub data JobRead : Type 0 where
+  Whole : JobNumbers → JobRead
+  Refused : ℕ → JobRead
+
 -- 0 is no refusal
 abbrev pub read_answer : ℕ → JobNumbers → JobRead
 read_answer zero n = Whole n
@@ -86,7 +89,7 @@ read_answer (suc k) n = Refused (suc k)
 unfoldable pub read_job : List ℕ → Bool → JobRead
 read_job s limited = read_answer (job_refusal s limited) (job_numbers s)
 
--- for each case of the enum: the paper's number, 0 where the job is read, and the values, all 0 where it is refused
+-- for each case: the paper's number, 0 where the job is read, and the values, all 0 where it is refused
 abbrev pub read_number : JobRead → ℕ
 read_number (Whole n) = 0
 read_number (Refused n) = n

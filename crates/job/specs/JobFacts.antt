@@ -1,7 +1,7 @@
 -- What the code of the job format rests on. Assumes nothing.
 use Prim.Native.Nat.{ℕ, zero, suc, ◌+◌, ◌*◌, ◌≤◌, ◌<◌}
 use Rattle.std.proofs.Common.{zero-add, arith, sym, ap, ◌∙◌, ⊎_elim, append-nil, take_at}
-use Rattle.std.specs.Prelude.{◌≡◌, Bool, ◌&&◌, List, [], ◌∷◌, ◌++◌, length, set, take, drop}
+use Rattle.std.specs.Prelude.{◌≡◌, Bool, ◌&&◌, List, [], ◌∷◌, ◌++◌, length, set, take, drop, min}
 use Rattle.std.proofs.Math.Path.{refl}
 use Rattle.std.proofs.Math.Bool.{true, false, not}
 use Rattle.std.proofs.lemmas.List.{map-append, length-map, take-append-le}
@@ -16,9 +16,7 @@ use Rattle.lists.specs.Stores.{sets_all}
 use Rattle.lists.specs.Writes.{Stores, stores_turn, stores_done}
 use Rattle.lists.specs.Refusals.{refusal_at, answers, accepted, refused, ◌then◌}
 use Rattle.job.specs.declared.JobNumbers.{JobNumbers}
-use Rattle.job.specs.declared.JobRead.{JobRead}
-use Rattle.job.specs.declared.JobRead.TheVariants.{Whole, Refused}
-use Rattle.job.specs.Job.{two, twos, rest_length, cell_count, most_worklist_cells, job_numbers, job_vertices, job_edges, job_right, job_small, job_refusal, read_answer, read_job, read_number, read_values, front, vertex_list_of, edge_list_of}
+use Rattle.job.specs.Job.{JobRead, Whole, Refused, two, twos, rest_length, cell_count, most_worklist_cells, job_numbers, job_vertices, job_edges, job_right, job_small, job_refusal, read_answer, read_job, read_number, read_values, front, vertex_list_of, edge_list_of}
 
 -- ---- checks 12 and 13
 
@@ -98,15 +96,28 @@ take_twos s k m (suc n) h = ⊎_elim (λ l. shorter l (take_twos s k m n (omega 
 
 module _ (s : List ℕ) (k n : ℕ) (list : List ℕ) where
   -- a part of it is lent, and read
-  pub front_part : n < length list → {part : List ℕ} → part ≡ twos s k (length (take n list)) → part ++ drop n list ≡ front (twos s k n) list
+  front_part : n < length list → {part : List ℕ} → part ≡ twos s k (length (take n list)) → part ++ drop n list ≡ front (twos s k n) list
   unfolding front
   front_part h e =
       rw (e, length-take-le n list (omega arith), take_all (length list) (twos s k n) (omega (arith, length_twos s k n)), length_twos s k n)
 
   -- the whole of it
-  pub front_whole : length list ≤ n → twos s k (length list) ≡ front (twos s k n) list
+  front_whole : length list ≤ n → twos s k (length list) ≡ front (twos s k n) list
   unfolding front
   front_whole h = rw (take_twos s k (length list) n h, length_twos s k n, drop_of_length-le list {i = n} h, append-nil)
+
+  -- as much of it as there are numbers
+  pub front_least : {most : ℕ} → most ≡ min n (length list) → {part : List ℕ} → part ≡ twos s k (length (take most list)) → part ++ drop most list ≡ front (twos s k n) list
+  front_least {most} m {part} e = ⊎_elim fewer all (lt_or_le n (length list))
+    where
+      fewer : n < length list → part ++ drop most list ≡ front (twos s k n) list
+      fewer h = let same : most ≡ n = omega (arith, m) in rw same (front_part h (rw same at e))
+
+      all : length list ≤ n → part ++ drop most list ≡ front (twos s k n) list
+      all h =
+          let same : most ≡ length list = omega (arith, m) in
+          let whole : part ≡ twos s k (length list) = rw (same, take_all (length list) list (omega arith)) at e in
+          rw (same, drop_of_length-le list {i = length list} (omega arith), append-nil) (whole ∙ front_whole h)
 
 -- ---- what reading a job answers and writes
 

@@ -1,34 +1,17 @@
 // The fields of the job format, big-endian, and what the first 7 bytes of a job decide.
 ghost use Rattle.std.specs.Prelude.{◌≡◌, ◌+◌, ◌<◌, length};
+ghost use Rattle.job.specs.Answers.{head_told, told};
 ghost use Rattle.job.specs.Head.{head_right, read_head, size_refusal};
-ghost use Rattle.job.specs.Job.{byte, two, four};
+ghost use Rattle.job.specs.Job.{two, four};
 
-use crate::{HeadRead, MOST_WORKLIST_CELLS};
-use numbers::wide;
-
-// A byte as a number.
-fn number(x: u8) -> u32
-    ensures { (result ≡ x) × (result < 256) }
-{
-    x as u32
-}
-
-// Byte k.
-pub(crate) fn byte_at(bytes: &[u8], k: usize) -> u32
-    requires { k < length bytes.now }
-    ensures { (result ≡ byte bytes.now k) × (result < 256) }
-{
-    number(bytes[k])
-}
+use crate::{JobRefusal, MOST_WORKLIST_CELLS};
 
 // The number of 2 bytes from byte k on.
-pub(crate) fn two_at(bytes: &[u8], k: usize) -> u32
+pub(crate) fn two_at(bytes: &[u8], k: usize) -> u16
     requires { k + 1 < length bytes.now }
-    ensures { (result ≡ two bytes.now k) × (result < 65536) }
+    ensures { result ≡ two bytes.now k }
 {
-    let high = byte_at(bytes, k);
-    let low = byte_at(bytes, k + 1);
-    256 * high + low
+    u16::from_be_bytes([bytes[k], bytes[k + 1]])
 }
 
 // The number of 4 bytes from byte k on.
@@ -36,7 +19,7 @@ fn four_at(bytes: &[u8], k: usize) -> u32
     requires { k + 3 < length bytes.now }
     ensures { result ≡ four bytes.now k }
 {
-    65536 * two_at(bytes, k) + two_at(bytes, k + 2)
+    u32::from_be_bytes([bytes[k], bytes[k + 1], bytes[k + 2], bytes[k + 3]])
 }
 
 // Whether the first 7 bytes are there and right.
@@ -46,31 +29,32 @@ pub(crate) fn head_right(bytes: &[u8]) -> bool
     if bytes.len() < 7 {
         return false;
     }
-    let rest = wide(four_at(bytes, 0));
-    let version = byte_at(bytes, 4);
-    let cells = wide(two_at(bytes, 5));
+    let rest = four_at(bytes, 0);
+    let version = bytes[4];
+    let cells = u32::from(two_at(bytes, 5));
     (version == 1) & (rest == 15 + 12 * cells)
 }
 
-// What the first 7 bytes say: `head_wrong`, `head_size` and `head_longer` of proofs/HeadFacts have what they decide.
-pub fn read_head(bytes: &[u8]) -> HeadRead
-    ensures { result ≡ read_head bytes.now }
+// What the first 7 bytes say: C, or that they are refused whatever follows. `head_wrong`, `head_size` and `head_longer` of proofs/HeadFacts have what they decide.
+pub fn read_head(bytes: &[u8]) -> Result<u32, JobRefusal>
+    ensures { head_told result ≡ read_head bytes.now }
 {
     if head_right(bytes) {
-        return HeadRead::Cells(two_at(bytes, 5));
+        Ok(u32::from(two_at(bytes, 5)))
+    } else {
+        Err(JobRefusal::Malformed)
     }
-    HeadRead::Refused(12)
 }
 
 // Checks 12 and 13 of a job of `worklist` whose first 7 bytes are right and say so many cells, and of which so many bytes came.
-pub fn size_refusal(cells: u32, bytes: usize) -> u32
-    ensures { result ≡ size_refusal cells bytes }
+pub fn check_size(cells: u32, bytes: usize) -> Result<(), JobRefusal>
+    ensures { told result ≡ size_refusal cells bytes }
 {
-    if bytes != 19 + 12 * wide(cells) {
-        return 12;
+    if bytes != 19 + 12 * cells as usize {
+        return Err(JobRefusal::Malformed);
     }
     if MOST_WORKLIST_CELLS < cells {
-        return 13;
+        return Err(JobRefusal::TooLarge);
     }
-    0
+    Ok(())
 }

@@ -1,12 +1,14 @@
-// The job format: the fields of a job and checks 12 and 13 (`reading`), and what its first 7 bytes decide (`head`).
+// The job format: the fields of a job and checks 12 and 13 (`reading`), what its first 7 bytes decide (`head`), and why a job is turned down (`refusal`).
 #![tactic(auto)]
 
 mod head;
 mod reading;
+mod refusal;
 
 use function::Element;
-pub use head::{read_head, size_refusal};
+pub use head::{check_size, read_head};
 pub use reading::read_job;
+pub use refusal::JobRefusal;
 
 // The most cells of a job of `worklist`.
 pub const MOST_WORKLIST_CELLS: u32 = 64;
@@ -20,18 +22,4 @@ pub struct JobNumbers {
     pub test: Element,
     pub trial: Element,
     pub batch: u32,
-}
-
-// What reading a job answers.
-#[derive(Clone, Copy)]
-pub enum JobRead {
-    Whole(JobNumbers),
-    Refused(u32),
-}
-
-// What the first 7 bytes of a job answer: C, or that they are refused whatever follows.
-#[derive(Clone, Copy)]
-pub enum HeadRead {
-    Cells(u32),
-    Refused(u32),
 }

@@ -1,11 +1,11 @@
 // Reads a job: checks 12 and 13, the numbers and the two lists.
 ghost use Rattle.std.specs.Prelude.{◌≡◌, ◌+◌, ◌*◌, ◌≤◌, ◌<◌, length};
+ghost use Rattle.job.specs.Answers.{job_told, told};
 ghost use Rattle.job.specs.Job.{twos, element_at, job_numbers, job_right, job_refusal, front, read_job, vertex_list_of, edge_list_of};
 
-use crate::head::{byte_at, head_right, two_at};
-use crate::{JobNumbers, JobRead, MOST_WORKLIST_CELLS};
+use crate::head::{head_right, two_at};
+use crate::{JobNumbers, JobRefusal, MOST_WORKLIST_CELLS};
 use function::Element;
-use numbers::wide;
 
 // Check 12.
 fn job_right(bytes: &[u8]) -> bool
@@ -14,20 +14,20 @@ fn job_right(bytes: &[u8]) -> bool
     if !head_right(bytes) {
         return false;
     }
-    bytes.len() == 19 + 12 * wide(two_at(bytes, 5))
+    bytes.len() == 19 + 12 * usize::from(two_at(bytes, 5))
 }
 
-// The first check that turns the job down, 12 or, where asked, 13; or 0.
-fn job_refusal(bytes: &[u8], limited: bool) -> u32
-    ensures { result ≡ job_refusal bytes.now limited }
+// Check 12 and, where asked, 13.
+fn check_job(bytes: &[u8], limited: bool) -> Result<(), JobRefusal>
+    ensures { told result ≡ job_refusal bytes.now limited }
 {
     if !job_right(bytes) {
-        return 12;
+        return Err(JobRefusal::Malformed);
     }
-    if limited & (MOST_WORKLIST_CELLS < two_at(bytes, 5)) {
-        return 13;
+    if limited & (MOST_WORKLIST_CELLS < u32::from(two_at(bytes, 5))) {
+        return Err(JobRefusal::TooLarge);
     }
-    0
+    Ok(())
 }
 
 // The element whose a, b and c are bytes k, k + 1 and k + 2.
@@ -35,10 +35,11 @@ fn element_at(bytes: &[u8], k: usize) -> Element
     requires { k + 2 < length bytes.now }
     ensures { result ≡ element_at bytes.now k }
 {
-    let a = byte_at(bytes, k);
-    let b = byte_at(bytes, k + 1);
-    let c = byte_at(bytes, k + 2);
-    Element { a: a, b: b, c: c }
+    Element {
+        a: u32::from(bytes[k]),
+        b: u32::from(bytes[k + 1]),
+        c: u32::from(bytes[k + 2]),
+    }
 }
 
 // The numbers before the lists.
@@ -46,19 +47,13 @@ fn numbers_of(bytes: &[u8]) -> JobNumbers
     requires { 19 ≤ length bytes.now }
     ensures { (result ≡ job_numbers bytes.now) × (result.cells < 65536) }
 {
-    let cells = two_at(bytes, 5);
-    let vertices = two_at(bytes, 7);
-    let edges = two_at(bytes, 9);
-    let test = element_at(bytes, 11);
-    let trial = element_at(bytes, 14);
-    let batch = two_at(bytes, 17);
     JobNumbers {
-        cells: cells,
-        vertices: vertices,
-        edges: edges,
-        test: test,
-        trial: trial,
-        batch: batch,
+        cells: u32::from(two_at(bytes, 5)),
+        vertices: u32::from(two_at(bytes, 7)),
+        edges: u32::from(two_at(bytes, 9)),
+        test: element_at(bytes, 11),
+        trial: element_at(bytes, 14),
+        batch: u32::from(two_at(bytes, 17)),
     }
 }
 
@@ -67,8 +62,8 @@ fn read_numbers(bytes: &[u8], at: usize, list: &mut [u32])
     requires { at + 2 * length list.old ≤ length bytes.now }
     ensures { list.new ≡ twos bytes.now at (length list.old) }
 {
-    for i in 0..list.len() {
-        list[i] = two_at(bytes, at + 2 * i);
+    for (i, number) in list.iter_mut().enumerate() {
+        *number = u32::from(two_at(bytes, at + 2 * i));
     }
 }
 
@@ -77,11 +72,8 @@ fn read_front(bytes: &[u8], at: usize, n: usize, list: &mut [u32])
     requires { at + 2 * n ≤ length bytes.now }
     ensures { list.new ≡ front (twos bytes.now at n) list.old }
 {
-    if n < list.len() {
-        read_numbers(bytes, at, &mut list[..n]);
-    } else {
-        read_numbers(bytes, at, list);
-    }
+    let most = n.min(list.len());
+    read_numbers(bytes, at, &mut list[..most]);
 }
 
 // Reads a job: its numbers, with its vertices and edges at the front of the two lists, as far as these have room; or 12; or, where it is
@@ -91,20 +83,17 @@ pub fn read_job(
     limited: bool,
     vertex_list: &mut [u32],
     edge_list: &mut [u32],
-) -> JobRead
-    ensures value { result ≡ read_job bytes.now limited }
+) -> Result<JobNumbers, JobRefusal>
+    ensures value { job_told result ≡ read_job bytes.now limited }
     ensures vertex_list_after { vertex_list.new ≡ vertex_list_of bytes.now limited vertex_list.old }
     ensures edge_list_after { edge_list.new ≡ edge_list_of bytes.now limited edge_list.old }
 {
-    let refused = job_refusal(bytes, limited);
-    if refused != 0 {
-        return JobRead::Refused(refused);
-    }
+    check_job(bytes, limited)?;
     let numbers = numbers_of(bytes);
-    let n = 3 * wide(numbers.cells);
+    let n = 3 * numbers.cells as usize;
     let vertices_at = 19;
     let edges_at = 19 + 2 * n;
     read_front(bytes, vertices_at, n, vertex_list);
     read_front(bytes, edges_at, n, edge_list);
-    JobRead::Whole(numbers)
+    Ok(numbers)
 }

@@ -1,5 +1,5 @@
--- `job::head::head_right` meets its contract: `&` of the tests is `_and_`. Assumes nothing.
-use mathlib.Core.Path.{◌∙◌}
+-- `&` of the tests is `_and_`. Assumes nothing.
+use mathlib.Core.Path.{refl, ◌∙◌}
 use Rattle.job.proofs.HeadFacts.{short_head, long_head}
 use Rattle.job.proofs.head.head_right.Goals as goal
 
@@ -7,5 +7,4 @@ pub returns-then-bytes-lt7 : goal.returns-then-bytes-lt7
 returns-then-bytes-lt7 c = short_head _ c.if-bytes-lt7.true
 
 pub returns : goal.returns
-returns c =
-    long_head _ _ _ _ c.if-bytes-lt7.false (c.wide-rest.ensures ∙ c.four_at.ensures) c.byte_at-version.ensures.0 (c.wide-cells.ensures ∙ c.two_at.ensures.0)
+returns c = long_head _ _ _ _ c.if-bytes-lt7.false c.four_at-rest.ensures refl (c.from-cells.ensures ∙ c.two_at.ensures)

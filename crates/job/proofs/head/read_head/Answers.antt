@@ -1,4 +1,4 @@
--- `job::head::read_head` meets its contract. Assumes nothing.
+-- Assumes nothing.
 use native.Mathlib.Omega.{arith}
 use mathlib.Core.Path.{sym, ◌∙◌}
 use Rattle.job.proofs.HeadFacts.{head_long, head_cells_lem, head_refused}
@@ -8,7 +8,7 @@ pub two_at-requires : goal.two_at-requires
 two_at-requires c = let long = head_long _ (sym c.head_right.ensures ∙ c.if-head_right.true) in omega arith
 
 pub returns-then-head_right : goal.returns-then-head_right
-returns-then-head_right c = head_cells_lem _ (sym c.head_right.ensures ∙ c.if-head_right.true) c.two_at.ensures.0
+returns-then-head_right c = head_cells_lem _ (sym c.head_right.ensures ∙ c.if-head_right.true) (c.from.ensures ∙ c.two_at.ensures)
 
-pub returns : goal.returns
-returns c = head_refused _ (sym c.head_right.ensures ∙ c.if-head_right.false)
+pub returns-else-head_right : goal.returns-else-head_right
+returns-else-head_right c = head_refused _ (sym c.head_right.ensures ∙ c.if-head_right.false)

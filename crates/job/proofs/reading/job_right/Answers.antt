@@ -1,4 +1,4 @@
--- `job::reading::job_right` meets its contract: the first 7 bytes, and the number of bytes. Assumes nothing.
+-- The first 7 bytes, and the number of bytes. Assumes nothing.
 use native.Mathlib.Omega.{arith}
 use mathlib.Core.Path.{sym, ◌∙◌}
 use Rattle.job.proofs.HeadFacts.{head_long, wrong_fails, right_by_length}
@@ -11,4 +11,4 @@ pub two_at-requires : goal.two_at-requires
 two_at-requires c = let long = head_long _ (sym c.head_right.ensures ∙ c.if-not-head_right.false) in omega arith
 
 pub returns : goal.returns
-returns c = rw (c.wide.ensures ∙ c.two_at.ensures.0) (right_by_length _ (sym c.head_right.ensures ∙ c.if-not-head_right.false))
+returns c = rw (c.from.ensures ∙ c.two_at.ensures) (right_by_length _ (sym c.head_right.ensures ∙ c.if-not-head_right.false))
