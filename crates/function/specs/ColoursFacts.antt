@@ -10,9 +10,6 @@ use mathlib.Core.List.{List, [], ◌∷◌, ◌++◌, flat_map}
 use Rattle.std.proofs.Math.ListN.{length, get_or, set, length-append, get_or-append, length-set}
 use Rattle.std.proofs.lemmas.List.{get_or-replicate, length-replicate, replicate_more, get_or_at}
 use Rattle.std.proofs.lemmas.List.Edits.{sets}
-use Rattle.std.proofs.Common.{nat_cmp}
-use Rattle.std.specs.Ordering.{ord_max}
-use Rattle.std.proofs.lemmas.Bool.Decides.{nat_tests}
 use Rattle.std.proofs.Math.Dec.{eqb, ltb}
 use borrow.Author.Tests.{eq-eqb, ne_eqb, not-true, lt-ltb, le-ltb, ltb-true}
 use Rattle.lists.specs.Bool.{◌and◌, ◌or◌, true≢false, same_test, and_left, and_right, and_both, and_no_left, or_right}
@@ -363,9 +360,6 @@ count_snoc [] c = omega arith
 count_snoc (d ∷ cs) c = ap (max (suc d)) (count_snoc cs c) ∙ sym (max_assoc (suc d) (colour_count cs) (c + 1))
 
 -- what is held before place i: the number of colours of the places passed
-pub larger_of : (a b : ℕ) → ord_max nat_cmp a b ≡ max a b
-larger_of a b = grind (arith, nat_tests)
-
 pub record Counted (cs : List ℕ) (i n : ℕ) : Type 0 where
   pub fits : i ≤ length cs
   pub count : n ≡ colour_count (take i cs)

@@ -38,7 +38,7 @@ impl Element {
 fn is_dim(n: usize) -> bool
     ensures { result ≡ within 1 most_dim n }
 {
-    (1 <= n) & (n <= MOST_DIM)
+    (1..=MOST_DIM).contains(&n)
 }
 
 // An element for each kind of cell.

@@ -1,5 +1,5 @@
 -- Laws of the kinds of the cells: what check 26 says of them, and that the kind of a cell is present, and once. Assumes nothing.
-use Rattle.std.specs.Prelude.{ℕ, zero, suc, ◌+◌, ◌-◌, ◌*◌, ◌<◌, ◌≤◌, Bool, false, ◌&&◌, ◌≡◌, refl, ◌⊎◌, List, [], ◌∷◌, length, get_or, take, drop, ltb}
+use Rattle.std.specs.Prelude.{ℕ, zero, suc, ◌+◌, ◌-◌, ◌*◌, ◌<◌, ◌≤◌, Bool, false, ◌&&◌, ◌≡◌, refl, ◌⊎◌, List, [], ◌∷◌, ◌++◌, length, get_or, take, drop, ltb}
 use Rattle.std.proofs.Common.{add-mul, one-mul, zero-mul, not-suc-le-zero, le_of_suc-le-suc, arith, sym, ap₂, subst, ◌∙◌, length-drop, get_or-take, get_or-drop, take_all, length-take-le}
 use Rattle.std.proofs.Math.Bool.{true}
 use Rattle.std.proofs.Math.Path.{ap}
@@ -8,7 +8,7 @@ use Rattle.std.proofs.Math.Dec.{eqb}
 use borrow.Author.Tests.{lt-ltb, eq-eqb, ne_eqb, eqb-true}
 use Rattle.lists.specs.Bool.{◌and◌, ◌or◌, every, every_at, every_fails, every_of, ◌also◌, end, and_left, and_right, and_both, and_no_left, or_left, or_right, same_test, cases}
 use Rattle.lists.specs.Bounded.{all, all_at, all_of, all_next, all_ext, all_sum, lt_or_le}
-use Rattle.lists.specs.Total.{total, gate, total_filter}
+use Rattle.lists.specs.Total.{total, total_append, gate, total_filter}
 use Rattle.grid.specs.Cells.{before}
 use Rattle.grid.specs.CellsFacts.{before_more, before_most}
 use Rattle.grid.specs.Mesh.{cells_of, kinds_present, kinds_right, kinds_match}
@@ -57,6 +57,10 @@ kinds_few ks n i = omega (arith, before_most (λ k. gate (eqb k n) 1) ks 1 i (λ
 
 pub cells_few : (ks : List ℕ) (n : ℕ) → cells_of ks n ≤ length ks
 cells_few ks n = omega (arith, kinds_all ks n, kinds_few ks n (length ks))
+
+pub cells_append : (ks ls : List ℕ) (n : ℕ) → cells_of (ks ++ ls) n ≡ cells_of ks n + cells_of ls n
+unfolding cells_of
+cells_append ks ls n = total_append (λ k. gate (eqb k n) 1) ks ls
 
 -- those of the first a cells, and of b cells behind them
 before_cut : (w : ℕ → ℕ) (ks : List ℕ) (a b j : ℕ) → j ≤ b → before w ks (a + j) ≡ before w ks a + before w (take b (drop a ks)) j

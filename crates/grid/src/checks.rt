@@ -13,7 +13,7 @@ ghost use Rattle.grid.specs.Mesh.{most_cells, most_vertices, most_edges, kinds_r
 use crate::edge_rule::keeps_edge_rule;
 use crate::shape::{count_places, end_of, is_distinct, kinds_known};
 use crate::{MOST_CELLS, MOST_EDGES, MOST_VERTICES, Mesh};
-use numbers::{all_below, is_within, wide};
+use numbers::{all_below, wide};
 use refusals::Refusal;
 
 // Check 26.
@@ -37,15 +37,12 @@ fn all_distinct(kinds: &[u8], vertices: &[u32]) -> bool
     ensures { result ≡ all (length kinds.now) (λ i. distinct (part own kinds.now vertices.now i)) }
 {
     let mut at = 0;
-    let mut i = 0;
-    while i < kinds.len() {
-        let end = end_of(kinds[i], at);
-        if is_distinct(&vertices[at..end]) {
-            at = end;
-            i += 1;
-        } else {
+    for &kind in kinds {
+        let end = end_of(kind, at);
+        if !is_distinct(&vertices[at..end]) {
             return false;
         }
+        at = end;
     }
     true
 }
@@ -58,7 +55,7 @@ fn vertices_right(vertices: u32, kinds: &[u8], cell_vertices: &[u32]) -> bool
         ∷ all (length kinds.now) (λ i. distinct (part own kinds.now cell_vertices.now i))
         ∷ []) }
 {
-    is_within(3, MOST_VERTICES as u64, vertices as u64)
+    (3..=MOST_VERTICES).contains(&wide(vertices))
         & all_below(cell_vertices, vertices)
         & all_distinct(kinds, cell_vertices)
 }
@@ -71,7 +68,7 @@ fn edges_sized(edges: u32, kinds: &[u8], cell_edges: &[u32]) -> bool
         ∷ all_below cell_edges.now edges
         ∷ []) }
 {
-    is_within(3, MOST_EDGES as u64, edges as u64)
+    (3..=MOST_EDGES).contains(&wide(edges))
         & (cell_edges.len() == count_places(kinds))
         & all_below(cell_edges, edges)
 }
@@ -95,7 +92,7 @@ fn edges_right(mesh: Mesh) -> bool
 pub fn mesh_refusal(mesh: Mesh) -> Result<(), Refusal>
     ensures { told result ≡ refusal (mesh_checks (mesh_lent mesh.entry)) }
 {
-    if !is_within(1, MOST_CELLS as u64, mesh.sizes.cells as u64) {
+    if !(1..=MOST_CELLS).contains(&wide(mesh.sizes.cells)) {
         return Err(Refusal::Cells);
     }
     if !kinds_right(mesh.sizes.cells, mesh.kinds) {

@@ -20,12 +20,10 @@ fn write_keys(kinds: &[u8], vertices: &[u32], keys: &mut [u32])
     ensures { keys.new ≡ edge_keys kinds.now vertices.now (length kinds.now) }
 {
     let mut at = 0;
-    let mut i = 0;
-    while i < kinds.len() {
-        let end = end_of(kinds[i], at);
+    for &kind in kinds {
+        let end = end_of(kind, at);
         write_cell_keys(&vertices[at..end], keys, at);
         at = end;
-        i += 1;
     }
 }
 
@@ -35,10 +33,8 @@ fn has_key(keys: &[u32; MOST_EDGES], count: usize, key: u32) -> bool
     ensures { result ≡ has_key keys.now count key }
 {
     let mut found = false;
-    let mut m = 0;
-    while m < count {
-        found = found | (keys[m] == key);
-        m += 1;
+    for &known in &keys[..count] {
+        found |= known == key;
     }
     found
 }
@@ -56,14 +52,6 @@ fn may_have(keys: &[u32; MOST_EDGES], count: usize, edge: usize, key: u32) -> bo
     }
 }
 
-// The smallest number that is at least top and above the edge.
-fn past(top: usize, edge: usize) -> usize
-    requires { edge < most_edges }
-    ensures { (top ≤ result) × (edge < result) × ((m : ℕ) → top ≤ m → edge < m → result ≤ m) }
-{
-    if top <= edge { edge + 1 } else { top }
-}
-
 // Whether each edge, of so many, has one key at all its places, and no two edges have the same, where the keys of the edge places are given. An edge that no place
 // passed has is marked with NO_KEY; those past the largest number so far are not looked at.
 fn keys_agree(places: &[u32], edges: &[u32], count: usize) -> bool
@@ -72,17 +60,13 @@ fn keys_agree(places: &[u32], edges: &[u32], count: usize) -> bool
 {
     let mut keys = [NO_KEY; MOST_EDGES];
     let mut top = 0;
-    let mut k = 0;
-    while k < edges.len() {
-        let edge = wide(edges[k]);
-        let key = places[k];
-        top = past(top, edge);
-        if may_have(&keys, top, edge, key) {
-            keys[edge] = key;
-            k += 1;
-        } else {
+    for (&number, &key) in edges.iter().zip(places) {
+        let edge = wide(number);
+        top = top.max(edge + 1);
+        if !may_have(&keys, top, edge, key) {
             return false;
         }
+        keys[edge] = key;
     }
     true
 }

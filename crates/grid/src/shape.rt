@@ -31,11 +31,8 @@ pub(crate) fn kinds_known(kinds: &[u8]) -> bool
     ensures { result ≡ all (length kinds.now) (λ i. eqb (get_or kinds.now i 0) 3 or eqb (get_or kinds.now i 0) 4) }
 {
     let mut known = true;
-    let mut i = 0;
-    while i < kinds.len() {
-        let kind = kinds[i];
-        known = known & ((kind == 3) | (kind == 4));
-        i += 1;
+    for &kind in kinds {
+        known &= (kind == 3) | (kind == 4);
     }
     known
 }
@@ -45,11 +42,9 @@ fn count_few(kinds: &[u8], kind: u8) -> u8
     requires { length kinds.now ≤ few }
     ensures { result ≡ cells_of kinds.now kind }
 {
-    let mut count = 0u8;
-    let mut i = 0;
-    while i < kinds.len() {
-        count += (kinds[i] == kind) as u8;
-        i += 1;
+    let mut count = 0;
+    for &k in kinds {
+        count += (k == kind) as u8;
     }
     count
 }
@@ -62,14 +57,11 @@ pub fn count_kind(kinds: &[u8], kind: u8) -> u32
     requires { length kinds.now ≤ most_cells }
     ensures { result ≡ cells_of kinds.now kind }
 {
-    let mut count = 0u32;
-    let mut at = 0;
-    while at + FEW <= kinds.len() {
-        let end = at + FEW;
-        count += count_few(&kinds[at..end], kind) as u32;
-        at = end;
+    let mut count = 0;
+    for few in kinds.chunks(FEW) {
+        count += count_few(few, kind) as u32;
     }
-    count + count_few(&kinds[at..], kind) as u32
+    count
 }
 
 // Whether the first 4n cells are of a kind. With no way out before the end, as above, and a cell of each quarter at a time, so that there are fewer turns.
@@ -95,10 +87,8 @@ fn rest_are(kinds: &[u8], kind: u8) -> bool
     ensures { result ≡ all (length kinds.now) (λ i. eqb (get_or kinds.now i 0) kind) }
 {
     let mut same = true;
-    let mut i = 0;
-    while i < kinds.len() {
-        same = same & (kinds[i] == kind);
-        i += 1;
+    for &k in kinds {
+        same &= k == kind;
     }
     same
 }
@@ -136,10 +126,8 @@ pub(crate) fn count_places(kinds: &[u8]) -> usize
     ensures { result ≡ before own kinds.now (length kinds.now) }
 {
     let mut at = 0;
-    let mut i = 0;
-    while i < kinds.len() {
-        at += corners_of(kinds[i]);
-        i += 1;
+    for &kind in kinds {
+        at += corners_of(kind);
     }
     at
 }
@@ -288,12 +276,10 @@ pub fn write_rows(kinds: &[u8], list: &[u32], none: u32, rows: &mut [u32])
     ensures { rows.new ≡ rows_of none kinds.now list.now (length kinds.now) }
 {
     let mut at = 0;
-    let mut i = 0;
-    while i < kinds.len() {
-        let end = end_of(kinds[i], at);
+    for (i, &kind) in kinds.iter().enumerate() {
+        let end = end_of(kind, at);
         write_row(&list[at..end], none, rows, 4 * i);
         at = end;
-        i += 1;
     }
 }
 

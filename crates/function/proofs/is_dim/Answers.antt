@@ -1,8 +1,8 @@
--- `function::is_dim` meets its contract: `&` of two tests is `_and_`. Assumes nothing.
-use mathlib.Core.Path.{refl}
-use Rattle.lists.specs.Bool.{◌and◌}
+-- `function::is_dim` meets its contract. Assumes nothing.
+use mathlib.Core.Path.{◌∙◌}
+use Rattle.numbers.specs.Ranges.{contains_within}
 use Rattle.function.proofs.is_dim.Goals as goal
 
 pub returns : goal.returns
-unfolding ◌and◌
-returns c = refl
+returns c =
+    rw (c.new.ensures.start, c.new.ensures.end, c.new.ensures.exhausted) at c.contains.ensures.value ∙ contains_within _ _ _

@@ -1,22 +1,17 @@
--- See Invariants.antt. Assumes nothing.
-use native.Mathlib.Omega.{arith}
-use mathlib.Core.Path.{sym}
-use Rattle.lists.specs.Bounded.{all_none, all_more, all_fails, all_done}
-use borrow.Author.Tests.{lt-ltb, le-ltb}
+-- `numbers::all_below` meets its contract: what `all` answers, in our word. Assumes nothing.
+use mathlib.Core.Bool.{true, false}
+use mathlib.Core.Path.{◌≡◌}
+use lib.Dec.{ltb}
+use Rattle.std.proofs.lemmas.Iterator.{cases_from_all, YieldsList-from_slice}
+use Rattle.lists.specs.Items.{all_items}
 use Rattle.numbers.specs.Ranges.{all_below}
 use borrow.Author.Rules.{rules}
+use borrow.Author.Tests.{tests}
 use Rattle.numbers.proofs.all_below.Goals as goal
-
-pub loop-k-init : goal.loop-k-init
-loop-k-init c = (search rules, all_none _)
-
-pub loop-k-preserved : goal.loop-k-preserved
-loop-k-preserved c = (search rules, all_more _ _ c.loop-k.invariant.1 (lt-ltb _ _ c.if-list-k.true))
-
-pub returns-else-list-k : goal.returns-else-list-k
-unfolding all_below
-returns-else-list-k c = sym (all_fails _ _ c.loop-k.k (search rules) (le-ltb _ _ c.if-list-k.false))
 
 pub returns : goal.returns
 unfolding all_below
-returns c = all_done _ _ _ c.loop-k.invariant.1 (omega arith)
+returns c =
+    let xs = c.args.list.now in
+    let n = c.args.bound in
+    all_items 0 (λ x. ltb x n) xs _ (cases_from_all _ _ _ (λ x. ltb x n ≡ true) (λ x. ltb x n ≡ false) c.all.ensures.ran (YieldsList-from_slice xs cc) (λ x q k. search (rules, tests)) (λ x q k. search (rules, tests)))

@@ -1,7 +1,8 @@
 -- See Invariants.antt. Assumes nothing.
 use native.Mathlib.Omega.{arith}
 use mathlib.Core.Path.{◌∙◌}
-use Rattle.function.specs.ColoursFacts.{count_none, count_more, larger_of}
+use Rattle.numbers.specs.Ranges.{larger_of}
+use Rattle.function.specs.ColoursFacts.{count_none, count_more}
 use Rattle.function.proofs.colouring.count_colours.Goals as goal
 
 pub loop-colour-init : goal.loop-colour-init

@@ -1,7 +1,12 @@
 -- `grid::checks::edges_sized` meets its contract: `&` of the three tests is `_and_`. Assumes nothing.
+use mathlib.Core.Path.{◌∙◌}
 use Rattle.lists.specs.Bool.{◌and◌, every}
+use Rattle.numbers.specs.Ranges.{contains_within}
+use Rattle.grid.specs.Mesh.{most_edges}
 use Rattle.grid.proofs.checks.edges_sized.Goals as goal
 
 pub returns : goal.returns
 unfolding every ◌and◌
-returns c = rw (c.all_below.ensures, c.count_places.ensures, c.is_within.ensures)
+returns c =
+    let range = rw (c.new.ensures.start, c.new.ensures.end, c.new.ensures.exhausted, c.wide.ensures) at c.contains.ensures.value ∙ contains_within 3 most_edges c.args.edges in
+    rw (c.all_below.ensures, c.count_places.ensures, range)

@@ -9,7 +9,6 @@ use Rattle.grid.specs.Cells.{before}
 use mir.Val.{bool_byte}
 use Rattle.lists.specs.Total.{gate}
 use Rattle.grid.specs.KindsFacts.{kinds_all, kinds_next, kinds_few}
-use borrow.Author.Rules.{rules}
 use Rattle.grid.proofs.shape.count_few.Goals as goal
 
 as_number : (b : Bool) → bool_byte b ≡ gate b 1
@@ -20,15 +19,15 @@ at_most : (b : Bool) → bool_byte b ≤ 1
 at_most true = omega arith
 at_most false = omega arith
 
-pub loop-i-init : goal.loop-i-init
+pub loop-k-init : goal.loop-k-init
 unfolding before
-loop-i-init c = (search rules, refl)
+loop-k-init c = refl
 
 pub overflow_add-count : goal.overflow_add-count
-overflow_add-count c = let n = c.loop-i.invariant.1 in omega (arith, kinds_few c.args.kinds.now c.args.kind c.loop-i.i, at_most (eqb (get_or c.args.kinds.now c.loop-i.i 0) c.args.kind))
+overflow_add-count c = let n = c.loop-k.invariant in omega (arith, kinds_few c.args.kinds.now c.args.kind c.loop-k.k-index, at_most (eqb (get_or c.args.kinds.now c.loop-k.k-index 0) c.args.kind))
 
-pub loop-i-preserved : goal.loop-i-preserved
-loop-i-preserved c = (search rules, rw (c.loop-i.invariant.1, as_number) (sym (kinds_next _ _ _)))
+pub loop-k-preserved : goal.loop-k-preserved
+loop-k-preserved c = rw (c.loop-k.invariant, as_number) (sym (kinds_next _ _ _))
 
 pub returns : goal.returns
-returns c = let e : c.loop-i.i ≡ length c.args.kinds.now = omega arith in rw e at c.loop-i.invariant.1 ∙ kinds_all _ _
+returns c = let e : c.loop-k.k-index ≡ length c.args.kinds.now = omega arith in rw e at c.loop-k.invariant ∙ kinds_all _ _

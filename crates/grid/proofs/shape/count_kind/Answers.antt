@@ -1,32 +1,27 @@
 -- See Invariants.antt. Assumes nothing.
-use Prim.Native.Nat.{◌-◌}
-use native.Mathlib.Nat.{add-sub_cancel_left}
+use Prim.Native.Nat.{ℕ, ◌+◌}
+use mathlib.Core.List.{List}
 use native.Mathlib.Omega.{arith}
-use mathlib.Core.Path.{refl, sym}
-use lib.ListN.{length, drop, length-take, length-drop}
-use Rattle.grid.specs.Cells.{before}
-use Rattle.grid.specs.KindsFacts.{few, kinds_few, kinds_cut, kinds_rest}
-use borrow.Author.Rules.{rules}
+use mathlib.Core.Path.{◌≡◌, ap, sym, ◌∙◌}
+use Rattle.grid.specs.Mesh.{cells_of}
+use Rattle.grid.specs.KindsFacts.{cells_few, cells_append}
 use Rattle.grid.proofs.shape.count_kind.Goals as goal
+use Rattle.grid.proofs.shape.count_kind.Goals.{After-count_few}
 
-pub loop-at-init : goal.loop-at-init
-unfolding before
-loop-at-init c = (search rules, refl)
-
-pub count_few-requires : goal.count_few-requires
-count_few-requires c = let at = c.loop-at.at in rw (add-sub_cancel_left) (omega (arith, length-take few (drop at c.args.kinds.now)))
+-- the part that comes off and what is left
+parts : (c : After-count_few) → c.loop-few.count + (c.count_few.result + cells_of c.next.new.self.rest.now c.args.kind) ≡ cells_of c.args.kinds.now c.args.kind
+parts c =
+    ap (λ (n : ℕ). c.loop-few.count + n) (rw c.count_few.ensures (sym (cells_append c.in-Some.few.now c.next.new.self.rest.now c.args.kind)) ∙ ap (λ (ks : List ℕ). cells_of ks c.args.kind) (sym c.in-Some.ensures.steps.1.0))
+    ∙ c.loop-few.invariant.1
 
 pub overflow_add-count : goal.overflow_add-count
-overflow_add-count c = let n = c.loop-at.invariant.1 in omega (arith, kinds_few c.args.kinds.now c.args.kind c.loop-at.at)
+overflow_add-count c =
+    omega (arith, parts (goal.at.overflow_add-count c).After-count_few, cells_few c.args.kinds.now c.args.kind, c.requires)
 
-pub loop-at-preserved : goal.loop-at-preserved
-loop-at-preserved c = let at = c.loop-at.at in (omega (arith, c.loop-at-test.true), rw (c.loop-at.invariant.1, c.count_few.ensures, add-sub_cancel_left) (sym (kinds_cut c.args.kinds.now c.args.kind at few c.loop-at-test.true)))
-
-pub count_few-requires-2 : goal.count_few-requires-2
-count_few-requires-2 c = let at = c.loop-at.at in let ks = c.args.kinds.now in omega (arith, length-take (length ks - at) (drop at ks), length-drop at ks, c.loop-at-test.false)
-
-pub overflow_add-result : goal.overflow_add-result
-overflow_add-result c = let n = c.loop-at.invariant.1 in omega (arith, kinds_few c.args.kinds.now c.args.kind c.loop-at.at)
+pub loop-few-preserved : goal.loop-few-preserved
+loop-few-preserved c =
+    (omega (arith, c.in-Some.ensures.steps.0, c.loop-few.invariant.0), omega (arith, parts (goal.at.loop-few-preserved c).After-count_few))
 
 pub returns : goal.returns
-returns c = rw (c.loop-at.invariant.1, c.count_few-2.ensures) (kinds_rest c.args.kinds.now c.args.kind c.loop-at.at c.loop-at.invariant.0)
+returns c =
+    omega (arith, c.loop-few.invariant.1, cells_few c.loop-few.few-iterator.rest.now c.args.kind, c.in-None.ensures.steps.1.0)

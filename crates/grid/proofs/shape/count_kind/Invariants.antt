@@ -1,12 +1,9 @@
--- `grid::shape::count_kind` meets its contract. The invariant: how many of the cells passed are of the kind. Assumes nothing.
-use Prim.Native.Nat.{◌-◌, ◌≤◌}
+-- `grid::shape::count_kind` meets its contract. The invariant: the cells of the kind are those counted and those that are left. Assumes nothing.
+use Prim.Native.Nat.{◌+◌}
 use mathlib.Core.Path.{◌≡◌}
-use lib.ListN.{length}
-use Rattle.grid.specs.KindsFacts.{kinds_to}
+use Rattle.grid.specs.KindsFacts.{few}
+use Rattle.grid.specs.Mesh.{cells_of}
 use Rattle.grid.proofs.shape.count_kind.Given as goal
 
-abbrev pub invariant-loop-at : goal.invariant-loop-at
-invariant-loop-at l = (l.at ≤ length l.kinds) × (l.count ≡ kinds_to l.kinds l.kind l.at)
-
-abbrev pub decreases-loop-at : goal.decreases-loop-at
-decreases-loop-at l = length l.kinds - l.at
+abbrev pub invariant-loop-few : goal.invariant-loop-few
+invariant-loop-few l = (l.few-iterator.size ≡ few) × (l.count + cells_of l.few-iterator.rest.now l.kind ≡ cells_of l.kinds l.kind)
