@@ -1,6 +1,6 @@
 -- The colours (`cell_colouring`). Cells rise; each takes the smallest colour that no earlier cell sharing an entity of the dimension has.
 -- Assumes nothing.
-use Rattle.std.specs.Prelude.{ℕ, zero, suc, max, ◌+◌, ◌*◌, ◌≤◌, Bool, not, cond, ◌≡◌, List, [], ◌∷◌, ◌++◌, length, get_or, eqb, ltb}
+use Rattle.std.specs.Prelude.{ℕ, zero, suc, max, ◌≤◌, Bool, not, cond, ◌≡◌, List, [], ◌∷◌, ◌++◌, length, get_or, eqb, ltb}
 use Rattle.lists.specs.Bool.{◌and◌}
 use Rattle.lists.specs.Bounded.{some, least}
 use Rattle.grid.specs.Cells.{share_in}
@@ -52,9 +52,3 @@ pub record Colourable (s : Sizes) (kinds vertices edges colours : List ℕ) : Ty
   pub vertices_below : Below vertices s.vertices
   pub edges_below : Below edges s.edges
   pub places : length colours ≡ s.cells
-
--- the lists in which it groups the cells: the rows, a place for each number of a row, and one for each vertex or edge and for no one
-pub record Scratch (rows order ends : List ℕ) : Type 0 where
-  pub numbers : length rows ≡ 4 * most_cells
-  pub places : length order ≡ 4 * most_cells
-  pub entities : length ends ≡ most_edges + 1

@@ -6,14 +6,14 @@ ghost use Rattle.grid.specs.Cells.{share_in};
 ghost use Rattle.grid.specs.Rows.{share};
 ghost use Rattle.grid.specs.RowsFacts.{Padded};
 ghost use Rattle.grid.specs.Mesh.{most_cells, kinds_present};
-ghost use Rattle.cells_by_key.specs.Groups.{ByEntity};
-ghost use Rattle.function.specs.Colours.{taken, smallest, colours_to, colour_list, colour_count, Colourable, Scratch};
+ghost use Rattle.cells_by_key.specs.Groups.{ByEntity, Zeros};
+ghost use Rattle.function.specs.Colours.{taken, smallest, colours_to, colour_list, colour_count, Colourable};
 ghost use Rattle.function.specs.ColoursFacts.{colour_to, Marked, Marks, Earlier, Listed};
 ghost use Rattle.function.specs.Lent.{space_lent};
 
 use super::Elements;
 use cells_by_key::{Groups, by_key};
-use grid::{MOST_CELLS, Mesh, Rows, count_kind, write_rows};
+use grid::{MOST_CELLS, MOST_EDGES, Mesh, Rows, count_kind, write_rows};
 use numbers::wide;
 
 // Marks the colours of those cells of a list that are below i. A mark of cell i is i + 1.
@@ -90,8 +90,8 @@ fn colour_grouped(rows: Rows, groups: Groups, colours: &mut [u32])
     }
 }
 
-// The colours of all cells, by the entities of one list, which are below top, by way of three lists, whatever they hold: the rows, the cells by entity and where
-// each entity's end.
+// The colours of all cells, by the entities of one list, which are below top, by way of three lists: the rows, the cells by entity and where each entity's end,
+// which are zero at first.
 fn colour_sorted(
     kinds: &[u8],
     list: &[u32],
@@ -103,30 +103,24 @@ fn colour_sorted(
 )
     requires listed { Listed top kinds.now list.now colours.old }
     requires rows_len { (length rows.old ≡ 4 * length kinds.now) × (length order.old ≡ 4 * length kinds.now) × (length ends.old ≡ top + 1) }
+    requires zeros { Zeros ends.old }
     ensures { colours.new ≡ colours_to (share_in kinds.now list.now) (length colours.old) }
 {
     write_rows(kinds, list, top, rows);
-    ends.fill(0);
     by_key(rows, 4, ends, order);
     colour_grouped(Rows { rows, none: top }, Groups { order, ends }, colours);
 }
 
-// The same, by way of fronts of three lists.
-fn colour_cells(
-    kinds: &[u8],
-    list: &[u32],
-    top: u32,
-    rows: &mut [u32],
-    order: &mut [u32],
-    ends: &mut [usize],
-    colours: &mut [u32],
-)
-    requires listed { Listed top kinds.now list.now colours.old }
-    requires scratch { Scratch rows.old order.old ends.old }
+// The same. The three lists are alive here alone.
+fn colour_cells(kinds: &[u8], list: &[u32], top: u32, colours: &mut [u32])
+    requires { Listed top kinds.now list.now colours.old }
     ensures { colours.new ≡ colours_to (share_in kinds.now list.now) (length colours.old) }
 {
     let n = 4 * kinds.len();
     let groups = wide(top) + 1;
+    let mut rows = [0; 4 * MOST_CELLS];
+    let mut order = [0; 4 * MOST_CELLS];
+    let mut ends = [0; MOST_EDGES + 1];
     colour_sorted(
         kinds,
         list,
@@ -160,39 +154,15 @@ fn leading_kind(kinds: &[u8]) -> u8
 }
 
 // By the entities of dimension 0 if a > 0, else 1 if b > 0, else 2, in the element of the first kind present.
-fn colour_by_dimension(
-    mesh: Mesh,
-    elements: Elements,
-    rows: &mut [u32],
-    order: &mut [u32],
-    ends: &mut [usize],
-    colours: &mut [u32],
-)
-    requires colourable { Colourable mesh.sizes mesh.kinds.now mesh.cell_vertices.now mesh.cell_edges.now colours.old }
-    requires scratch { Scratch rows.old order.old ends.old }
+fn colour_by_dimension(mesh: Mesh, elements: Elements, colours: &mut [u32])
+    requires { Colourable mesh.sizes mesh.kinds.now mesh.cell_vertices.now mesh.cell_edges.now colours.old }
     ensures { colours.new ≡ colour_list (space_lent mesh.entry elements) mesh.entry.sizes.cells }
 {
     let element = elements.of(leading_kind(mesh.kinds));
     if 0 < element.a {
-        colour_cells(
-            mesh.kinds,
-            mesh.cell_vertices,
-            mesh.sizes.vertices,
-            rows,
-            order,
-            ends,
-            colours,
-        );
+        colour_cells(mesh.kinds, mesh.cell_vertices, mesh.sizes.vertices, colours);
     } else if 0 < element.b {
-        colour_cells(
-            mesh.kinds,
-            mesh.cell_edges,
-            mesh.sizes.edges,
-            rows,
-            order,
-            ends,
-            colours,
-        );
+        colour_cells(mesh.kinds, mesh.cell_edges, mesh.sizes.edges, colours);
     } else {
         colour_alone(colours);
     }
@@ -210,20 +180,12 @@ fn count_colours(colours: &[u32]) -> u32
     count
 }
 
-// Colours the cells, and hands back the number of colours. The cells are grouped in the lists rows, order and ends, whatever these hold.
-pub fn cell_colouring(
-    mesh: Mesh,
-    elements: Elements,
-    rows: &mut [u32],
-    order: &mut [u32],
-    ends: &mut [usize],
-    colours: &mut [u32],
-) -> u32
-    requires colourable { Colourable mesh.sizes mesh.kinds.now mesh.cell_vertices.now mesh.cell_edges.now colours.old }
-    requires scratch { Scratch rows.old order.old ends.old }
+// Colours the cells, and hands back the number of colours.
+pub fn cell_colouring(mesh: Mesh, elements: Elements, colours: &mut [u32]) -> u32
+    requires { Colourable mesh.sizes mesh.kinds.now mesh.cell_vertices.now mesh.cell_edges.now colours.old }
     ensures colours_after { colours.new ≡ colour_list (space_lent mesh.entry elements) mesh.entry.sizes.cells }
     ensures value { result ≡ colour_count (colour_list (space_lent mesh.entry elements) mesh.entry.sizes.cells) }
 {
-    colour_by_dimension(mesh, elements, rows, order, ends, colours);
+    colour_by_dimension(mesh, elements, colours);
     count_colours(colours)
 }
