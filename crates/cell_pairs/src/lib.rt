@@ -20,7 +20,7 @@ pub const NO_PATTERN: u32 = PATTERNS as u32;
 pub const DISTANT: u32 = 255;
 
 // The pattern of a pair of cells, the test cell and the trial cell.
-#[derive(Clone, Copy)]
+#[derive(Clone, Copy, Debug, PartialEq, Eq)]
 pub struct WorkRecord {
     pub pattern: u32,
     pub test: u32,
