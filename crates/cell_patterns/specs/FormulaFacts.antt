@@ -1,21 +1,22 @@
 -- Laws of the formula as its number is found: where a block begins, the place inside the block; of the digits of shared
 -- vertices; and of the row of the table where the formula points. Assumes nothing.
-use Rattle.std.specs.Prelude.{ℕ, zero, suc, ◌+◌, ◌*◌, ◌<◌, ◌≤◌, ◌≡◌, refl, cond, List, get_or, eqb}
+use Rattle.std.specs.Prelude.{ℕ, zero, suc, ◌+◌, ◌*◌, ◌^◌, ◌<◌, ◌≤◌, ◌≡◌, refl, Bool, cond, List, [], ◌∷◌, ◌++◌, length, take, get_or, eqb}
 use Rattle.std.proofs.Common.{add-zero, mul-le-mul_right, arith, ◌∙◌}
-use Rattle.std.proofs.Math.Path.{sym}
-use Rattle.std.proofs.Math.Logic.{⊎_elim}
+use Rattle.std.proofs.Math.Path.{sym, ap, subst}
+use Rattle.std.proofs.Math.Nat.{one-le-pow, pow-succ', mul-le-mul_left}
 use borrow.Author.Tests.{eq-eqb, ne_eqb, lt-ltb, le-ltb}
 use Rattle.lists.specs.Bool.{◌and◌}
-use Rattle.lists.specs.Bounded.{eq_or_ne}
-use Rattle.lists.specs.Range.{range}
+use Rattle.lists.specs.Range.{AllIn, all_in_at}
 use Rattle.grid.specs.Cells.{ends_of, edge_joining}
 use Rattle.cell_pairs.specs.Records.{pattern_count}
-use Rattle.cell_pairs.specs.Matches.{Match}
+use Rattle.cell_pairs.specs.Matches.{Match, ◌⇄◌}
 use Rattle.cell_pairs.specs.Table.{Pattern, pattern, number_of, block_start, in_block, formula_number}
 use Rattle.cell_pairs.proofs.TableFacts.{number_by_formula}
 use Rattle.pattern_table.specs.Numbers.{code_on, code_of, code_at}
-use Rattle.cell_patterns.specs.Shared.{listed}
-use Rattle.cell_patterns.specs.TableRows.{Decimal, row_same}
+use Rattle.cell_patterns.specs.Shared.{Small, matches_in}
+use Rattle.cell_patterns.specs.declared.shared.SharedVertex.{SharedVertex}
+use Rattle.std.proofs.lemmas.List.{take_more, map-append, length-take}
+use Rattle.cell_patterns.specs.TableRows.{Decimal, row_same, first, rest, none, also}
 
 -- ---- the block's start, by cases
 
@@ -37,65 +38,89 @@ sixteen a b h k = omega (arith, mul-le-mul_right b h)
 
 -- ---- the place inside the block
 
--- at most four, and not fewer
-pub four_pairs : (p : ℕ) → (p ≡ 0 → ⊥) → (p ≡ 1 → ⊥) → (p ≡ 2 → ⊥) → (p ≡ 3 → ⊥) → p ≤ 4 → p ≡ 4
-four_pairs zero a b c d l = absurd (a refl)
-four_pairs (suc zero) a b c d l = absurd (b refl)
-four_pairs (suc (suc zero)) a b c d l = absurd (c refl)
-four_pairs (suc (suc (suc zero))) a b c d l = absurd (d refl)
-four_pairs (suc (suc (suc (suc p)))) a b c d l = omega arith
+-- the place, by how many vertices are shared
+abbrev pub vertex : List SharedVertex → ℕ → SharedVertex
+vertex vs i = get_or vs i (record { test = 0; trial = 0 })
 
-module _ (n k pairs : ℕ) (ts rs : List ℕ) where
-  pub in_none : pairs ≡ 0 → pattern_count ≡ in_block n k (listed pairs ts rs)
-  unfolding in_block listed range
-  in_none e = rw e
+module _ (n k : ℕ) where
+  pub in_none : (vs : List SharedVertex) → length vs < 1 → 149 ≡ in_block n k (matches_in vs)
+  unfolding in_block
+  in_none [] e = refl
+  in_none (v ∷ vs) e = absurd (omega arith)
 
-  pub in_one : pairs ≡ 1 → k * get_or ts 0 0 + get_or rs 0 0 ≡ in_block n k (listed pairs ts rs)
-  unfolding in_block listed range
-  in_one e = rw e
+  pub in_one : (vs : List SharedVertex) → 1 ≤ length vs → length vs < 2 → k * (vertex vs 0).test + (vertex vs 0).trial ≡ in_block n k (matches_in vs)
+  unfolding in_block
+  in_one [] e f = absurd (omega arith)
+  in_one (v ∷ []) e f = refl
+  in_one (v ∷ w ∷ vs) e f = absurd (omega arith)
 
-  module _ (h : pairs ≡ 2) {e g second : ℕ} (x : e ≡ edge_joining n (get_or ts 0 0) (get_or ts 1 0)) (y : g ≡ edge_joining k (get_or rs 0 0) (get_or rs 1 0))
+  in_two : (vs : List SharedVertex) → 2 ≤ length vs → length vs < 3 → {e g second : ℕ} → e ≡ edge_joining n (vertex vs 0).test (vertex vs 1).test → g ≡ edge_joining k (vertex vs 0).trial (vertex vs 1).trial
+      → second ≡ (ends_of n e).second → n * k + 2 * (k * e + g) + cond (eqb (vertex vs 0).test second) 1 0 ≡ in_block n k (matches_in vs)
+  unfolding in_block
+  in_two [] a b x y z = absurd (omega arith)
+  in_two (v ∷ []) a b x y z = absurd (omega arith)
+  in_two (v ∷ w ∷ []) a b x y z = rw (z, x, y)
+  in_two (v ∷ w ∷ u ∷ vs) a b x y z = absurd (omega arith)
+
+  module _ (vs : List SharedVertex) (a : 2 ≤ length vs) (b : length vs < 3) {e g second : ℕ} (x : e ≡ edge_joining n (vertex vs 0).test (vertex vs 1).test) (y : g ≡ edge_joining k (vertex vs 0).trial (vertex vs 1).trial)
       (z : second ≡ (ends_of n e).second) where
-    in_two : n * k + 2 * (k * e + g) + cond (eqb (get_or ts 0 0) second) 1 0 ≡ in_block n k (listed pairs ts rs)
-    unfolding in_block listed range
-    in_two = rw (h, z, x, y)
+    pub in_turned : (vertex vs 0).test ≡ second → n * k + 2 * (k * e + g) + 1 ≡ in_block n k (matches_in vs)
+    in_turned t = subst (λ (d : Bool). n * k + 2 * (k * e + g) + cond d 1 0 ≡ in_block n k (matches_in vs)) (eq-eqb _ _ t) (in_two vs a b x y z)
 
-    pub in_turned : get_or ts 0 0 ≡ second → n * k + 2 * (k * e + g) + 1 ≡ in_block n k (listed pairs ts rs)
-    in_turned t = rw (eq-eqb _ _ t) at in_two
+    pub in_straight : ((vertex vs 0).test ≡ second → ⊥) → n * k + 2 * (k * e + g) ≡ in_block n k (matches_in vs)
+    in_straight t = sym (add-zero _) ∙ subst (λ (d : Bool). n * k + 2 * (k * e + g) + cond d 1 0 ≡ in_block n k (matches_in vs)) (ne_eqb _ _ t) (in_two vs a b x y z)
 
-    pub in_straight : (get_or ts 0 0 ≡ second → ⊥) → n * k + 2 * (k * e + g) ≡ in_block n k (listed pairs ts rs)
-    in_straight t = sym (add-zero _) ∙ (rw (ne_eqb _ _ t) at in_two)
+  pub in_more : (vs : List SharedVertex) → 3 ≤ length vs → 3 * (n * k) ≡ in_block n k (matches_in vs)
+  unfolding in_block
+  in_more [] e = absurd (omega arith)
+  in_more (v ∷ []) e = absurd (omega arith)
+  in_more (v ∷ w ∷ []) e = absurd (omega arith)
+  in_more (v ∷ w ∷ u ∷ vs) e = refl
 
-  pub in_more : (pairs ≡ 0 → ⊥) → (pairs ≡ 1 → ⊥) → (pairs ≡ 2 → ⊥) → pairs ≤ 4 → 3 * (n * k) ≡ in_block n k (listed pairs ts rs)
-  unfolding in_block listed range
-  in_more a b c l = ⊎_elim (λ e. rw e) (λ d. let e : pairs ≡ 4 = four_pairs pairs a b c d l in rw e) (eq_or_ne pairs 3)
+-- the places of a vertex that is shared
+pub small_at : (vs : List SharedVertex) → AllIn Small vs → (i : ℕ) → i < length vs → Small (vertex vs i)
+small_at vs h i l = all_in_at Small vs h (record { test = 0; trial = 0 }) i l
 
--- ---- the digits of shared vertices
+-- ---- the code of shared vertices
 
-module _ (n k pairs : ℕ) (ts rs : List ℕ) where
-  pub code_none : pairs ≡ 0 → 10 * n + k ≡ code_of (pattern n k (listed pairs ts rs))
-  unfolding code_of code_on listed range
-  code_none h = rw h
+-- one more
+code_more : (c : ℕ) (ms : List Match) (m : Match) → code_on c (ms ++ (m ∷ [])) ≡ 100 * code_on c ms + (10 * m.test + m.trial)
+unfolding code_on
+code_more c [] m = refl
+code_more c (o ∷ ms) m = code_more (100 * c + (10 * o.test + o.trial)) ms m
 
-  module _ {a : ℕ} (e : a ≡ 10 * get_or ts 0 0 + get_or rs 0 0) where
-    pub code_one : pairs ≡ 1 → 100 * (10 * n + k) + a ≡ code_of (pattern n k (listed pairs ts rs))
-    unfolding code_of code_on listed range
-    code_one h = rw (h, e)
+pub code_turn : (c : ℕ) (vs : List SharedVertex) (i : ℕ) (d : SharedVertex) → i < length vs
+    → 100 * code_on c (matches_in (take i vs)) + (10 * (get_or vs i d).test + (get_or vs i d).trial) ≡ code_on c (matches_in (take (i + 1) vs))
+code_turn c vs i d l =
+    sym
+    (ap (λ (ws : List SharedVertex). code_on c (matches_in ws)) (take_more vs i d l)
+    ∙ ap (code_on c) (map-append (λ (v : SharedVertex). v.test ⇄ v.trial) (take i vs) (get_or vs i d ∷ []))
+    ∙ code_more c (matches_in (take i vs)) ((get_or vs i d).test ⇄ (get_or vs i d).trial))
 
-    module _ {b : ℕ} (f : b ≡ 10 * get_or ts 1 0 + get_or rs 1 0) where
-      pub code_two : pairs ≡ 2 → 100 * (100 * (10 * n + k) + a) + b ≡ code_of (pattern n k (listed pairs ts rs))
-      unfolding code_of code_on listed range
-      code_two h = rw (h, e, f)
+one_or_more : (n : ℕ) → 1 ≤ 100 * 100 ^ n
+one_or_more n = omega (arith, one-le-pow n 100 (omega arith))
 
-      module _ {c : ℕ} (g : c ≡ 10 * get_or ts 2 0 + get_or rs 2 0) where
-        pub code_three : pairs ≡ 3 → 100 * (100 * (100 * (10 * n + k) + a) + b) + c ≡ code_of (pattern n k (listed pairs ts rs))
-        unfolding code_of code_on listed range
-        code_three h = rw (h, e, f, g)
+-- of few vertices it is small
+code_few : (n c : ℕ) (vs : List SharedVertex) → AllIn Small vs → length vs ≤ n → code_on c (matches_in vs) < (c + 1) * 100 ^ n
+unfolding code_on
+code_few zero c [] h l = omega arith
+code_few zero c (v ∷ vs) h l = absurd (omega arith)
+code_few (suc n) c [] h l = rw pow-succ' (omega (arith, mul-le-mul_left (c + 1) (one_or_more n)))
+code_few (suc n) c (v ∷ vs) h l =
+    let s : Small v = first v vs h in
+    let more = code_few n (100 * c + (10 * v.test + v.trial)) vs (rest v vs h) (omega arith) in
+    let low : 100 * c + (10 * v.test + v.trial) + 1 ≤ 100 * c + 100 = omega (arith, s.0, s.1) in
+    rw pow-succ' (omega (arith, more, mul-le-mul_right (100 ^ n) low))
 
-        pub code_four : {d : ℕ} → d ≡ 10 * get_or ts 3 0 + get_or rs 3 0 → pairs ≡ 4
-            → 100 * (100 * (100 * (100 * (10 * n + k) + a) + b) + c) + d ≡ code_of (pattern n k (listed pairs ts rs))
-        unfolding code_of code_on listed range
-        code_four i h = rw (h, e, f, g, i)
+small_take : (i : ℕ) (vs : List SharedVertex) → AllIn Small vs → AllIn Small (take i vs)
+small_take zero vs h = none
+small_take (suc i) [] h = none
+small_take (suc i) (v ∷ vs) h = also v (take i vs) (first v vs h) (small_take i vs (rest v vs h))
+
+pub code_below : (c : ℕ) (vs : List SharedVertex) (i : ℕ) → c < 45 → AllIn Small vs → i ≤ 4 → code_on c (matches_in (take i vs)) < 4500000000
+code_below c vs i h s l =
+    let e = code_few 4 c (take i vs) (small_take i vs s) (omega (arith, length-take i vs)) in
+    omega arith
 
 -- ---- the number
 

@@ -1,15 +1,17 @@
 -- Laws of the shared vertices of two cells, as the code makes their list. Assumes nothing.
-use Rattle.std.specs.Prelude.{ℕ, zero, suc, ◌+◌, ◌<◌, ◌≤◌, ◌≡◌, refl, Bool, false, not, Option, None, Some, length, get_or, set, eqb}
-use Rattle.std.proofs.Common.{add-one, arith, sym, ap₂, subst, ◌∙◌, ⊎_elim, length-append, get_or-set_same, get_or-set_other, eqb-true, eq-eqb, ne_eqb, lt-ltb, le-ltb}
+use Rattle.std.specs.Prelude.{ℕ, zero, suc, ◌+◌, ◌<◌, ◌≤◌, ◌≡◌, refl, Bool, false, Option, None, Some, length, get_or, take, eqb, MatchOption, ◌||◌}
+use Rattle.std.proofs.Common.{zero-le, add-one, arith, sym, ap₂, subst, ◌∙◌, ⊎_elim, length-append, eqb-true, eq-eqb, ne_eqb, lt-ltb, le-ltb}
 use Rattle.std.proofs.Math.Path.{ap}
 use Rattle.std.specs.Option.{is_some}
+use Rattle.std.specs.List.{AllWithin, HoldsAt}
 use Rattle.std.proofs.Math.Bool.{true}
 use mathlib.Core.List.{List, [], ◌∷◌, ◌++◌, flat_map, append-nil}
-use Rattle.std.proofs.lemmas.List.{length-map}
+use Rattle.std.proofs.lemmas.List.{length-map, map-append}
+use Rattle.std.proofs.lemmas.Bool.{eqb-false}
 use Rattle.std.proofs.Math.Dec.{ltb}
-use Rattle.lists.specs.Bool.{◌or◌, true≢false, cases, or_left}
-use Rattle.lists.specs.Bounded.{least, least_is, least_none, least_holds, least_before, least_le, lt_or_le, eq_or_ne}
-use Rattle.lists.specs.Range.{range, length_range, when, flat_map_none, flat_map_range, flat_map_below, flat_map_nil, range_split, map_range, map_below}
+use Rattle.lists.specs.Bool.{◌or◌, true≢false, cases}
+use Rattle.lists.specs.Bounded.{least, least_is, least_none, least_holds, least_before, lt_or_le, eq_or_ne}
+use Rattle.lists.specs.Range.{AllIn, all_in_append, range, when, flat_map_none, flat_map_range, flat_map_below, flat_map_nil, range_split}
 use Rattle.grid.specs.Cells.{distinct, share}
 use Rattle.grid.specs.CellsFacts.{has_place, has_at, share_which, share_at}
 use Rattle.grid.specs.Facts.{vertices_differ}
@@ -17,46 +19,8 @@ use Rattle.cell_pairs.specs.Matches.{Match, ◌⇄◌, matches}
 use Rattle.cell_pairs.specs.Records.{pattern_count, IsPattern}
 use Rattle.cell_pairs.specs.Table.{pattern, number_of}
 use Rattle.triangle_patterns.specs.Triangles.{cells_right}
-use Rattle.cell_patterns.specs.Shared.{listed, place_in}
-
--- each place in the two lists is below 4
-pub record Small (ts rs : List ℕ) : Type 0 where
-  pub test : (p : ℕ) → get_or ts p 0 < 4
-  pub trial : (p : ℕ) → get_or rs p 0 < 4
-
-pub small_none : Small (0 ∷ 0 ∷ 0 ∷ 0 ∷ []) (0 ∷ 0 ∷ 0 ∷ 0 ∷ [])
-small_none = record { test = zeros; trial = zeros }
-  where
-    zeros : (p : ℕ) → get_or {A = ℕ} (0 ∷ 0 ∷ 0 ∷ 0 ∷ []) p 0 < 4
-    zeros zero = omega arith
-    zeros (suc zero) = omega arith
-    zeros (suc (suc zero)) = omega arith
-    zeros (suc (suc (suc zero))) = omega arith
-    zeros (suc (suc (suc (suc p)))) = omega arith
-
-small_set : (xs : List ℕ) (a x : ℕ) → a < length xs → x < 4 → ((p : ℕ) → get_or xs p 0 < 4) → (p : ℕ) → get_or (set xs a x) p 0 < 4
-small_set xs a x l h small p =
-    ⊎_elim (λ e. subst (λ (n : ℕ). get_or (set xs a x) n 0 < 4) (sym e) (subst (λ (y : ℕ). y < 4) (sym (get_or-set_same xs a x 0 l)) h))
-    (λ e. subst (λ (y : ℕ). y < 4) (sym (get_or-set_other xs a p x 0 e)) (small p)) (eq_or_ne p a)
-
-pub small_more : {ts rs : List ℕ} (a p q : ℕ) → Small ts rs → a < length ts → a < length rs → p < 4 → q < 4 → Small (set ts a p) (set rs a q)
-small_more {ts} {rs} a p q s ht hr hp hq = record { test = small_set ts a p ht hp s.test; trial = small_set rs a q hr hq s.trial }
-
--- ---- one more shared vertex
-
-pub listed_none : (ts rs : List ℕ) → listed 0 ts rs ≡ []
-unfolding listed range
-listed_none ts rs = refl
-
-pub listed_more : (n : ℕ) (ts rs : List ℕ) (p q : ℕ) → n < length ts → n < length rs
-    → listed (n + 1) (set ts n p) (set rs n q) ≡ listed n ts rs ++ (p ⇄ q ∷ [])
-unfolding listed
-listed_more n ts rs p q ht hr =
-    map_range (λ k. get_or (set ts n p) k 0 ⇄ get_or (set rs n q) k 0) n
-    ∙ ap₂ (λ (l : List Match) (m : Match). l ++ (m ∷ []))
-    (map_below (λ k. get_or (set ts n p) k 0 ⇄ get_or (set rs n q) k 0) (λ k. get_or ts k 0 ⇄ get_or rs k 0) n
-    (λ k l. ap₂ ◌⇄◌ (get_or-set_other ts n k p 0 (λ e. absurd (omega arith))) (get_or-set_other rs n k q 0 (λ e. absurd (omega arith)))))
-    (ap₂ ◌⇄◌ (get_or-set_same ts n p 0 ht) (get_or-set_same rs n q 0 hr))
+use Rattle.cell_patterns.specs.Shared.{Small, matches_in, one_at, IsPlace, place_in}
+use Rattle.cell_patterns.specs.declared.shared.SharedVertex.{SharedVertex}
 
 -- ---- one place alone passes
 
@@ -122,76 +86,67 @@ matches_all xs ys = refl
 
 -- ---- the loops
 
--- a vertex that is skipped, and one that is kept
-pub match_skipped : (ms : List Match) (p n q : ℕ) → n ≤ p → ms ≡ ms ++ when (ltb p n) (p ⇄ q ∷ [])
-match_skipped ms p n q h = sym (ap (λ (b : Bool). ms ++ when b (p ⇄ q ∷ [])) (le-ltb p n h) ∙ append-nil ms)
-
-pub match_kept : (a : ℕ) (ts rs : List ℕ) (p n q : ℕ) → a < length ts → a < length rs → p < n
-    → listed (a + 1) (set ts a p) (set rs a q) ≡ listed a ts rs ++ when (ltb p n) (p ⇄ q ∷ [])
-match_kept a ts rs p n q ht hr h =
-    listed_more a ts rs p q ht hr ∙ sym (ap (λ (b : Bool). listed a ts rs ++ when b (p ⇄ q ∷ [])) (lt-ltb p n h))
-
--- a search for the place of a vertex
-pub place_found : (xs : List ℕ) (x p : ℕ) → p < length xs → ((k : ℕ) → k < p → eqb (get_or xs k 0) x ≡ false) → get_or xs p 0 ≡ x → p ≡ place_in xs x
+-- a search for the place of a vertex, as the library's `position` answers it
+pub place_told : (xs : List ℕ) (x : ℕ) (r : Option ℕ)
+    → MatchOption r (AllWithin (λ y. eqb y x ≡ false) xs 0 (length xs)) (λ p. (p < length xs) × HoldsAt (λ y. eqb y x ≡ true) xs p × AllWithin (λ y. eqb y x ≡ false) xs 0 p)
+    → IsPlace r (place_in xs x) (length xs)
 unfolding place_in
-place_found xs x p l h e = sym (least_is (length xs) (λ p. eqb (get_or xs p 0) x) p (omega arith) h (λ _. eq-eqb (get_or xs p 0) x e))
+place_told xs x None h = least_none (length xs) (λ p. eqb (get_or xs p 0) x) (λ k l. h k 0 zero-le l)
+place_told xs x (Some p) h = (sym (least_is (length xs) (λ p. eqb (get_or xs p 0) x) p (omega (arith, h.0)) (λ k l. h.2 k 0 zero-le l) (λ _. h.1 0)), h.0)
 
-pub place_none : (xs : List ℕ) (x p : ℕ) → p ≡ length xs → ((k : ℕ) → k < p → eqb (get_or xs k 0) x ≡ false) → length xs ≡ place_in xs x
-unfolding place_in
-place_none xs x p e h = sym (least_none (length xs) (λ p. eqb (get_or xs p 0) x) (λ k l. h k (omega arith)))
+-- the vertex at trial place q, as a match
+one_match : (xs ys : List ℕ) (q : ℕ) (r : Option ℕ) → IsPlace r (place_in xs (get_or ys q 0)) (length xs)
+    → matches_in (one_at r q) ≡ when (ltb (place_in xs (get_or ys q 0)) (length xs)) (place_in xs (get_or ys q 0) ⇄ q ∷ [])
+one_match xs ys q None h =
+    let none : length xs ≤ place_in xs (get_or ys q 0) = omega (arith, h) in
+    rw (le-ltb _ _ none)
+one_match xs ys q (Some p) h =
+    let here : place_in xs (get_or ys q 0) < length xs = omega (arith, h.0, h.1) in
+    rw (lt-ltb _ _ here, h.0)
 
-pub place_turn : (xs : List ℕ) (x p : ℕ) → ((k : ℕ) → k < p → eqb (get_or xs k 0) x ≡ false) → (get_or xs p 0 ≡ x → ⊥) → (k : ℕ) → k < p + 1 → eqb (get_or xs k 0) x ≡ false
-place_turn xs x p h ne k l =
-    ⊎_elim (λ e. ne_eqb (get_or xs k 0) x (λ q. ne (ap (λ (j : ℕ). get_or xs j 0) (sym e) ∙ q))) (λ d. ⊎_elim (λ u. h k u) (λ u. absurd (d (omega arith))) (lt_or_le k p)) (eq_or_ne k p)
+one_most : (r : Option ℕ) (q : ℕ) → length (one_at r q) ≤ 1
+one_most None q = omega arith
+one_most (Some p) q = omega arith
 
--- a place is at most the number of vertices
-pub place_le : (xs : List ℕ) (x : ℕ) → place_in xs x ≤ length xs
-unfolding place_in
-place_le xs x = least_le (length xs) (λ p. eqb (get_or xs p 0) x)
+one_small : (r : Option ℕ) (p n q : ℕ) → IsPlace r p n → n ≤ 4 → q < 4 → AllIn Small (one_at r q)
+unfolding AllIn
+one_small None p n q h l k = tt
+one_small (Some x) p n q h l k = ((omega (arith, h.1), k), tt)
 
 -- the shared vertices of the trial places below q, as the loop over the trial places has them
-pub record Gathered (xs ys : List ℕ) (n end pairs : ℕ) (ts rs : List ℕ) (q : ℕ) : Type 0 where
-  pub size : n ≡ length xs
-  pub finish : end ≡ length ys
+pub record Gathered (xs ys : List ℕ) (count : ℕ) (list : List SharedVertex) (q : ℕ) : Type 0 where
   pub below : q ≤ length ys
-  pub few : pairs ≤ q
-  pub list : listed pairs ts rs ≡ matches_to xs ys q
-  pub small : Small ts rs
+  pub few : count ≤ q
+  pub size : length (take count list) ≡ count
+  pub found : matches_in (take count list) ≡ matches_to xs ys q
+  pub small : AllIn Small (take count list)
 
-pub gathered_start : (xs ys : List ℕ) → Gathered xs ys (length xs) (length ys) 0 (0 ∷ 0 ∷ 0 ∷ 0 ∷ []) (0 ∷ 0 ∷ 0 ∷ 0 ∷ []) 0
-gathered_start xs ys =
-    record { size = refl; finish = refl; below = omega arith; few = omega arith; list = listed_none _ _ ∙ sym (matches_none xs ys); small = small_none }
+pub gathered_start : (xs ys : List ℕ) (list : List SharedVertex) → Gathered xs ys 0 list 0
+unfolding AllIn
+gathered_start xs ys list = record { below = omega arith; few = omega arith; size = refl; found = sym (matches_none xs ys); small = tt }
 
-pub gathered_turn : {xs ys : List ℕ} {n end pairs : ℕ} {ts rs : List ℕ} {q : ℕ} → Gathered xs ys n end pairs ts rs q → q < length ys → distinct xs ≡ true
-    → (p pairs' : ℕ) (ts' rs' : List ℕ) → p ≡ place_in xs (get_or ys q 0) → listed pairs' ts' rs' ≡ listed pairs ts rs ++ when (ltb p n) (p ⇄ q ∷ []) → pairs' ≤ pairs + 1 → Small ts' rs'
-    → Gathered xs ys n end pairs' ts' rs' (q + 1)
-gathered_turn {xs} {ys} {n} {end} {pairs} {ts} {rs} {q} g l d p pairs' ts' rs' place more few small =
+pub gathered_turn : {xs ys : List ℕ} {count : ℕ} {list : List SharedVertex} {q : ℕ} → Gathered xs ys count list q → q < length ys → (length xs ≤ 4) × (length ys ≤ 4) × (distinct xs ≡ true)
+    → (r : Option ℕ) (count' : ℕ) (list' : List SharedVertex) → IsPlace r (place_in xs (get_or ys q 0)) (length xs) → take count' list' ≡ take count list ++ one_at r q → count' ≡ count + length (one_at r q)
+    → Gathered xs ys count' list' (q + 1)
+gathered_turn {xs} {ys} {count} {list} {q} g l h r count' list' place more few =
     record {
-      size = g.size;
-      finish = g.finish;
       below = omega arith;
-      few = omega (arith, g.few);
-      list =
-          more
-          ∙ ap₂ (λ (ms : List Match) (k : ℕ). ms ++ when (ltb k n) (k ⇄ q ∷ [])) g.list place
-          ∙ ap (λ (k : ℕ). matches_to xs ys q ++ when (ltb (place_in xs (get_or ys q 0)) k) (place_in xs (get_or ys q 0) ⇄ q ∷ [])) g.size
-          ∙ sym (matches_more xs ys q d);
-      small = small;
+      few = omega (arith, g.few, one_most r q);
+      size = ap length more ∙ length-append (take count list) (one_at r q) ∙ omega (arith, g.size);
+      found =
+          ap matches_in more
+          ∙ map-append (λ (v : SharedVertex). v.test ⇄ v.trial) (take count list) (one_at r q)
+          ∙ ap₂ (λ (a b : List Match). a ++ b) g.found (one_match xs ys q r place)
+          ∙ sym (matches_more xs ys q h.2);
+      small = subst (AllIn Small) (sym more) (all_in_append Small (take count list) (one_at r q) g.small (one_small r _ _ q place h.0 (omega (arith, h.1))));
     }
 
-pub gathered_done : {xs ys : List ℕ} {n end pairs : ℕ} {ts rs : List ℕ} {q : ℕ} → Gathered xs ys n end pairs ts rs q → length ys ≤ q → listed pairs ts rs ≡ matches xs ys
-gathered_done {xs} {ys} {n} {end} {pairs} {ts} {rs} {q} g l =
+pub gathered_done : {xs ys : List ℕ} {count : ℕ} {list : List SharedVertex} {q : ℕ} → Gathered xs ys count list q → length ys ≤ q → matches_in (take count list) ≡ matches xs ys
+gathered_done {xs} {ys} {count} {list} {q} g l =
     let q=k : q ≡ length ys = omega (arith, g.below) in
-    g.list ∙ ap (matches_to xs ys) q=k ∙ matches_all xs ys
-
-pub place_small : {r : ℕ} (xs : List ℕ) (x : ℕ) → r ≡ place_in xs x → length xs ≤ 4 → r ≤ 4
-place_small xs x e h = omega (arith, e, place_le xs x)
+    g.found ∙ ap (matches_to xs ys) q=k ∙ matches_all xs ys
 
 -- ---- check 7
-
-pub length_listed : (n : ℕ) (ts rs : List ℕ) → length (listed n ts rs) ≡ n
-unfolding listed
-length_listed n ts rs = length-map (range n) (λ k. get_or ts k 0 ⇄ get_or rs k 0) ∙ length_range n
 
 longer : (ls ms ns : List Match) → length ms ≤ length (ls ++ (ms ++ ns))
 longer ls ms ns = omega (arith, length-append ls (ms ++ ns), length-append ms ns)
@@ -238,17 +193,21 @@ is_known : (r : Option ℕ) (n : ℕ) → IsPattern r n → is_some r ≡ ltb n 
 is_known None n h = sym (le-ltb n pattern_count (omega arith))
 is_known (Some p) n h = sym (lt-ltb n pattern_count (omega (arith, h.0, h.1)))
 
-module _ (xs ys : List ℕ) (n : ℕ) (ts rs : List ℕ) (e : listed n ts rs ≡ matches xs ys) where
-  many : length (matches xs ys) ≡ n
-  many = ap length (sym e) ∙ length_listed n ts rs
+-- vs are the shared vertices, and n is how many
+pub right_by : (xs ys : List ℕ) (vs : List SharedVertex) (n : ℕ) → n ≡ length vs → matches_in vs ≡ matches xs ys
+    → (r : Option ℕ) → IsPattern r (number_of (pattern (length xs) (length ys) (matches_in vs))) → eqb n 0 || is_some r ≡ cells_right xs ys
+unfolding ◌or◌
+right_by xs ys vs n c e r f = go (eqb n 0) refl
+  where
+    shares : share xs ys ≡ ltb 0 n
+    shares = share_some xs ys ∙ ap (ltb 0) (ap length (sym e) ∙ length-map vs (λ (v : SharedVertex). v.test ⇄ v.trial) ∙ sym c)
 
-  pub none_shared : n ≡ 0 → true ≡ cells_right xs ys
-  none_shared z =
-      let s : share xs ys ≡ false = share_some xs ys ∙ rw (many, z) in
-      sym (or_left _ _ (ap not s))
-
-  pub some_shared : (n ≡ 0 → ⊥) → (r : Option ℕ) → IsPattern r (number_of (pattern (length xs) (length ys) (listed n ts rs))) → is_some r ≡ cells_right xs ys
-  unfolding ◌or◌
-  some_shared z r f =
-      let s : share xs ys ≡ true = share_some xs ys ∙ rw many (lt-ltb 0 n (⊎_elim (λ l. l) (λ l. absurd (z (omega arith))) (lt_or_le 0 n))) in
-      rw s (is_known r _ f ∙ ap (λ (ms : List Match). ltb (number_of (pattern (length xs) (length ys) ms)) pattern_count) e)
+    go : (b : Bool) → eqb n 0 ≡ b → b || is_some r ≡ cells_right xs ys
+    go true h =
+        let z : n ≡ 0 = eqb-true n 0 h in
+        let s : share xs ys ≡ false = shares ∙ ap (ltb 0) z in
+        rw s
+    go false h =
+        let z : n ≡ 0 → ⊥ = eqb-false n 0 h in
+        let s : share xs ys ≡ true = shares ∙ lt-ltb 0 n (⊎_elim (λ l. l) (λ l. absurd (z (omega arith))) (lt_or_le 0 n)) in
+        rw s (is_known r _ f ∙ ap (λ (ms : List Match). ltb (number_of (pattern (length xs) (length ys) ms)) pattern_count) e)

@@ -4,15 +4,15 @@ use Rattle.std.proofs.Common.{arith, sym, ap, ◌∙◌, eqb-true, eq-eqb, ltb-t
 use Rattle.std.proofs.Math.ListN.{get_or-map}
 use Rattle.lists.specs.Bool.{◌and◌, every, every_at, and_left, and_right, same_test}
 use Rattle.lists.specs.Bounded.{all, all_at}
-use Rattle.lists.specs.Range.{map_at, AllIn, all_in_places}
+use Rattle.lists.specs.Range.{AllIn, all_in_places}
 use Rattle.cell_pairs.specs.Records.{pattern_count}
 use Rattle.cell_pairs.specs.Matches.{Match, ◌⇄◌}
 use Rattle.cell_pairs.specs.MatchesFacts.{joined}
 use Rattle.cell_pairs.specs.Table.{Pattern, pattern, table, pattern_at, same}
 use Rattle.cell_pairs.proofs.TableFacts.{built, same_eq, eq_same}
 use Rattle.pattern_table.specs.Numbers.{code_on, code_of, table_rows, code_at}
-use Rattle.cell_patterns.specs.Shared.{listed}
-use Rattle.cell_patterns.specs.SharedFacts.{Small, length_listed}
+use Rattle.cell_patterns.specs.Shared.{Small, matches_in}
+use Rattle.cell_patterns.specs.declared.shared.SharedVertex.{SharedVertex}
 
 -- ---- a code tells its pattern
 
@@ -24,6 +24,30 @@ on_grows : (c : ℕ) (ms : List Match) → c ≤ code_on c ms
 unfolding code_on
 on_grows c [] = omega arith
 on_grows c (m ∷ ms) = omega (arith, on_grows (100 * c + (10 * m.test + m.trial)) ms)
+
+no_digits : AllIn Digits []
+unfolding AllIn
+no_digits = tt
+
+pub none : AllIn Small []
+unfolding AllIn
+none = tt
+
+pub also : (v : SharedVertex) (vs : List SharedVertex) → Small v → AllIn Small vs → AllIn Small (v ∷ vs)
+unfolding AllIn
+also v vs h k = (h, k)
+
+one : (v : SharedVertex) (vs : List SharedVertex) → Small v → AllIn Digits (matches_in vs) → AllIn Digits (matches_in (v ∷ vs))
+unfolding AllIn
+one v vs h k = ((omega (arith, h.0), omega (arith, h.1)), k)
+
+pub first : (v : SharedVertex) (vs : List SharedVertex) → AllIn Small (v ∷ vs) → Small v
+unfolding AllIn
+first v vs h = h.0
+
+pub rest : (v : SharedVertex) (vs : List SharedVertex) → AllIn Small (v ∷ vs) → AllIn Small vs
+unfolding AllIn
+rest v vs h = h.1
 
 -- where neither of c and d is a hundred times the other
 on_tells : (c d : ℕ) (ms ns : List Match) → AllIn Digits ms → AllIn Digits ns → c < 100 * d → d < 100 * c → code_on c ms ≡ code_on d ns → (c ≡ d) × (ms ≡ ns)
@@ -50,17 +74,12 @@ code_tells {x} {y} p q e =
     built (omega (arith, parts.0)) (omega (arith, parts.0)) parts.1
 
 -- of shared vertices the places are below 4
-pub listed_decimal : (n k pairs : ℕ) {ts rs : List ℕ} → 3 ≤ n → n ≤ 4 → k ≤ 4 → Small ts rs → Decimal (pattern n k (listed pairs ts rs))
-unfolding listed
-listed_decimal n k pairs {ts} {rs} a b c s =
-    record {
-      first = omega arith;
-      test = omega arith;
-      trial = omega arith;
-      places =
-          all_in_places Digits (listed pairs ts rs) (0 ⇄ 0)
-          (λ i l. rw (map_at (λ k. get_or ts k 0 ⇄ get_or rs k 0) (0 ⇄ 0) pairs i (omega (arith, length_listed pairs ts rs))) (omega (arith, s.test i), omega (arith, s.trial i)));
-    }
+pub shared_decimal : (n k : ℕ) (vs : List SharedVertex) → 3 ≤ n → n ≤ 4 → k ≤ 4 → AllIn Small vs → Decimal (pattern n k (matches_in vs))
+shared_decimal n k vs a b c s = record { first = omega arith; test = omega arith; trial = omega arith; places = digits vs s }
+  where
+    digits : (vs : List SharedVertex) → AllIn Small vs → AllIn Digits (matches_in vs)
+    digits [] h = no_digits
+    digits (v ∷ vs) h = one v vs (first v vs h) (digits vs (rest v vs h))
 
 -- ---- the table
 

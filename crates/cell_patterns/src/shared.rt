@@ -1,108 +1,84 @@
 // Cells of any kinds: the vertices that two cells share, and the pattern of these. The formula says where in the table it has to stand, and the row that stands
 // there is read.
-ghost use Rattle.std.specs.Prelude.{◌≡◌, true, [], ◌∷◌, ◌++◌, ◌+◌, ◌*◌, ◌≤◌, ◌<◌, length, get_or, ltb};
-ghost use Rattle.lists.specs.Range.{when};
+ghost use Rattle.std.specs.Prelude.{◌≡◌, true, ◌++◌, ◌+◌, ◌≤◌, ◌<◌, length, take, IfSome};
+ghost use Rattle.lists.specs.Range.{AllIn};
 ghost use Rattle.grid.specs.Cells.{distinct};
-ghost use Rattle.cell_pairs.specs.Matches.{◌⇄◌, matches};
+ghost use Rattle.cell_pairs.specs.Matches.{matches};
 ghost use Rattle.cell_pairs.specs.Patterns.{cells_pattern};
 ghost use Rattle.cell_pairs.specs.Records.{IsPattern};
 ghost use Rattle.cell_pairs.specs.Table.{pattern, number_of, block_start, in_block};
 ghost use Rattle.triangle_patterns.specs.Triangles.{cells_right};
 ghost use Rattle.pattern_table.specs.Numbers.{code_of};
-ghost use Rattle.cell_patterns.specs.Shared.{place_in, listed};
-ghost use Rattle.cell_patterns.specs.SharedFacts.{Small};
+ghost use Rattle.cell_patterns.specs.Shared.{place_in, IsPlace, Small, matches_in, one_at};
 
 use cell_pairs::NO_PATTERN;
 use grid::{edge_joining, second_of};
 use pattern_table::table_row;
 
-// The shared vertices of two cells: how many, and the places of each in the test cell and in the trial cell.
+// A vertex that two cells share, by its places in the test cell and in the trial cell.
+#[derive(Clone, Copy)]
+struct SharedVertex {
+    test: u32,
+    trial: u32,
+}
+
+// The vertices that two cells share: the first `count` of a list, since at most four are shared and nothing is allocated.
 #[derive(Clone, Copy)]
 struct Shared {
-    pairs: u32,
-    tests: [u32; 4],
-    trials: [u32; 4],
+    count: usize,
+    list: [SharedVertex; 4],
 }
 
-// The place of the vertex x in a cell; the number of its vertices where it has none.
-fn place_in(cell: &[u32], x: u32) -> usize
-    ensures { result ≡ place_in cell.now x }
+// The place of the vertex x in a cell, if it has one.
+fn place_in(cell: &[u32], x: u32) -> Option<usize>
+    ensures { IsPlace result (place_in cell.now x) (length cell.now) }
 {
-    for p in 0..cell.len() {
-        if cell[p] == x {
-            return p;
-        }
-    }
-    cell.len()
+    cell.iter().position(|&y| y == x)
 }
 
-// The shared vertices with one more, at test place p and trial place q, if p is a place of the n of the test cell.
-fn with_match(s: Shared, p: u32, n: u32, q: u32) -> Shared
-    requires pairs_bound { (s.pairs < 4) × (n ≤ 4) × (q < 4) }
-    requires small { Small s.tests s.trials }
-    ensures { (listed result.pairs result.tests result.trials ≡ listed s.pairs s.tests s.trials ++ when (ltb p n) (p ⇄ q ∷ [])) × (result.pairs ≤ s.pairs + 1) × Small result.tests result.trials }
+// The shared vertices with one more, the vertex at trial place q, if it has a place in the test cell.
+fn with_vertex(shared: Shared, place: Option<usize>, q: usize) -> Shared
+    requires count_bound { (shared.count < 4) × (q < 4) }
+    requires place_bound { IfSome place (λ p. p < 4) }
+    ensures { (take result.count result.list ≡ take shared.count shared.list ++ one_at place q) × (result.count ≡ shared.count + length (one_at place q)) }
 {
-    let at = s.pairs as usize;
-    if n <= p {
-        return s;
+    let mut more = shared;
+    if let Some(p) = place {
+        more.list[shared.count] = SharedVertex {
+            test: p as u32,
+            trial: q as u32,
+        };
+        more.count = shared.count + 1;
     }
-    let mut t = s;
-    t.tests[at] = p;
-    t.trials[at] = q;
-    t.pairs = s.pairs + 1;
-    t
+    more
 }
 
 // The shared vertices of two cells, trial places rising. The test cell has no vertex twice.
 fn matches_of(test: &[u32], trial: &[u32]) -> Shared
     requires { (length test.now ≤ 4) × (length trial.now ≤ 4) × (distinct test.now ≡ true) }
-    ensures { (listed result.pairs result.tests result.trials ≡ matches test.now trial.now) × (result.pairs ≤ 4) × Small result.tests result.trials }
+    ensures { (matches_in (take result.count result.list) ≡ matches test.now trial.now) × (result.count ≤ 4) × (length (take result.count result.list) ≡ result.count) × AllIn Small (take result.count result.list) }
 {
-    let n = test.len() as u32;
-    let mut s = Shared {
-        pairs: 0,
-        tests: [0; 4],
-        trials: [0; 4],
+    let mut shared = Shared {
+        count: 0,
+        list: [SharedVertex { test: 0, trial: 0 }; 4],
     };
-    for q in 0..trial.len() {
-        let p = place_in(test, trial[q]) as u32;
-        s = with_match(s, p, n, q as u32);
+    for (q, &x) in trial.iter().enumerate() {
+        shared = with_vertex(shared, place_in(test, x), q);
     }
-    s
-}
-
-// The places of shared vertex i as two digits.
-fn digits(s: Shared, i: usize) -> u64
-    requires i_bound { i < 4 }
-    requires small { Small s.tests s.trials }
-    ensures { (result ≡ 10 * get_or s.tests i 0 + get_or s.trials i 0) × (result < 100) }
-{
-    (10 * s.tests[i] + s.trials[i]) as u64
+    shared
 }
 
 // The code of the test kind n, the trial kind k and the shared vertices, as a row of the table has it.
-fn code_of(n: u32, k: u32, s: Shared) -> u64
-    requires n_bound { (n ≤ 4) × (k ≤ 4) × (s.pairs ≤ 4) }
-    requires small { Small s.tests s.trials }
-    ensures { result ≡ code_of (pattern n k (listed s.pairs s.tests s.trials)) }
+fn code_of(n: u32, k: u32, shared: &[SharedVertex]) -> u64
+    requires n_bound { (n ≤ 4) × (k ≤ 4) × (length shared.now ≤ 4) }
+    requires small { AllIn Small shared.now }
+    ensures { result ≡ code_of (pattern n k (matches_in shared.now)) }
 {
-    let kinds = (10 * n + k) as u64;
-    if s.pairs == 0 {
-        return kinds;
+    let mut code = (10 * n + k) as u64;
+    for s in shared {
+        code = 100 * code + (10 * s.test + s.trial) as u64;
     }
-    let one = 100 * kinds + digits(s, 0);
-    if s.pairs == 1 {
-        return one;
-    }
-    let two = 100 * one + digits(s, 1);
-    if s.pairs == 2 {
-        return two;
-    }
-    let three = 100 * two + digits(s, 2);
-    if s.pairs == 3 {
-        return three;
-    }
-    100 * three + digits(s, 3)
+    code
 }
 
 // Where the block of test kind n and trial kind k begins.
@@ -122,38 +98,37 @@ fn block_start(n: u32, k: u32) -> u32
 }
 
 // The place inside the block of test kind n and trial kind k that the formula gives the shared vertices.
-fn in_block(n: u32, k: u32, s: Shared) -> u32
-    requires le_n { (3 ≤ n) × (n ≤ 4) × (3 ≤ k) × (k ≤ 4) × (s.pairs ≤ 4) }
-    requires small { Small s.tests s.trials }
-    ensures { (result ≡ in_block n k (listed s.pairs s.tests s.trials)) × (result ≤ 149) }
+fn in_block(n: u32, k: u32, shared: &[SharedVertex]) -> u32
+    requires le_n { (3 ≤ n) × (n ≤ 4) × (3 ≤ k) × (k ≤ 4) × (length shared.now ≤ 4) }
+    requires small { AllIn Small shared.now }
+    ensures { (result ≡ in_block n k (matches_in shared.now)) × (result ≤ 149) }
 {
-    if s.pairs == 0 {
-        return NO_PATTERN;
-    }
-    if s.pairs == 1 {
-        return k * s.tests[0] + s.trials[0];
-    }
-    if s.pairs == 2 {
-        let e = edge_joining(n, s.tests[0], s.tests[1]);
-        let g = edge_joining(k, s.trials[0], s.trials[1]);
-        let place = n * k + 2 * (k * e + g);
-        if s.tests[0] == second_of(n, e) {
-            return place + 1;
+    match shared {
+        [] => NO_PATTERN,
+        [s] => k * s.test + s.trial,
+        [s, t] => {
+            let e = edge_joining(n, s.test, t.test);
+            let g = edge_joining(k, s.trial, t.trial);
+            let place = n * k + 2 * (k * e + g);
+            if s.test == second_of(n, e) {
+                place + 1
+            } else {
+                place
+            }
         }
-        return place;
+        _ => 3 * (n * k),
     }
-    3 * (n * k)
 }
 
 // The number of the pattern of two kinds and their shared vertices: the formula's, if the table has their code there.
-fn number_of(n: u32, k: u32, s: Shared) -> Option<u32>
-    requires le_n { (3 ≤ n) × (n ≤ 4) × (3 ≤ k) × (k ≤ 4) × (s.pairs ≤ 4) }
-    requires small { Small s.tests s.trials }
-    ensures { IsPattern result (number_of (pattern n k (listed s.pairs s.tests s.trials))) }
+fn number_of(n: u32, k: u32, shared: &[SharedVertex]) -> Option<u32>
+    requires le_n { (3 ≤ n) × (n ≤ 4) × (3 ≤ k) × (k ≤ 4) × (length shared.now ≤ 4) }
+    requires small { AllIn Small shared.now }
+    ensures { IsPattern result (number_of (pattern n k (matches_in shared.now))) }
 {
-    let r = block_start(n, k) + in_block(n, k, s);
+    let r = block_start(n, k) + in_block(n, k, shared);
     if r < NO_PATTERN {
-        if table_row(r as usize) == code_of(n, k, s) {
+        if table_row(r as usize) == code_of(n, k, shared) {
             return Some(r);
         }
     }
@@ -167,7 +142,8 @@ pub(crate) fn cells_pattern(test: &[u32], trial: &[u32]) -> Option<u32>
 {
     let n = test.len() as u32;
     let k = trial.len() as u32;
-    number_of(n, k, matches_of(test, trial))
+    let shared = matches_of(test, trial);
+    number_of(n, k, &shared.list[..shared.count])
 }
 
 // Check 7 of a test cell and a trial cell: they share no vertex, or have a pattern.
@@ -177,9 +153,6 @@ pub(crate) fn cells_right(test: &[u32], trial: &[u32]) -> bool
 {
     let n = test.len() as u32;
     let k = trial.len() as u32;
-    let s = matches_of(test, trial);
-    if s.pairs == 0 {
-        return true;
-    }
-    number_of(n, k, s).is_some()
+    let shared = matches_of(test, trial);
+    (shared.count == 0) | number_of(n, k, &shared.list[..shared.count]).is_some()
 }

@@ -1,18 +1,45 @@
--- `cell_patterns::shared::code_of` meets its contract: each return has so many shared vertices. Assumes nothing.
-use Rattle.cell_patterns.specs.FormulaFacts.{code_none, code_one, code_two, code_three, code_four, four_pairs}
+-- See Invariants.antt. Assumes nothing.
+use mathlib.Core.Path.{refl, ap, ◌∙◌}
+use Prim.Native.Nat.{◌+◌, ◌*◌, ◌<◌}
+use native.Mathlib.Omega.{arith}
+use Rattle.std.proofs.Common.{take_all}
+use mathlib.Core.List.{List}
+use Rattle.pattern_table.specs.Numbers.{code_of, code_on}
+use Rattle.cell_patterns.specs.Shared.{matches_in}
+use Rattle.cell_patterns.specs.declared.shared.SharedVertex.{SharedVertex}
+use Rattle.cell_patterns.specs.FormulaFacts.{code_turn, code_below, small_at}
 use Rattle.cell_patterns.proofs.shared.code_of.Goals as goal
+use Rattle.cell_patterns.proofs.shared.code_of.Goals.{In-loop-s}
 
-pub returns-then-s-eq0 : goal.returns-then-s-eq0
-returns-then-s-eq0 c = code_none c.args.n c.args.k c.args.s.pairs c.args.s.tests c.args.s.trials c.if-s-eq0.true
+-- the code so far is small
+small : (c : In-loop-s) → c.loop-s.code < 4500000000
+small c = rw c.loop-s.invariant (code_below (10 * c.args.n + c.args.k) c.args.shared.now c.loop-s.s-index (omega (arith, c.requires.n_bound)) c.requires.small (omega (arith, c.requires.n_bound)))
 
-pub returns-then-s-eq1 : goal.returns-then-s-eq1
-returns-then-s-eq1 c = code_one c.args.n c.args.k c.args.s.pairs c.args.s.tests c.args.s.trials c.digits.ensures.0 c.if-s-eq1.true
+pub loop-s-init : goal.loop-s-init
+unfolding code_on
+loop-s-init c = refl
 
-pub returns-then-s-eq2 : goal.returns-then-s-eq2
-returns-then-s-eq2 c = code_two c.args.n c.args.k c.args.s.pairs c.args.s.tests c.args.s.trials c.digits.ensures.0 c.digits-2.ensures.0 c.if-s-eq2.true
+pub overflow_mul-code-in-loop-s : goal.overflow_mul-code-in-loop-s
+overflow_mul-code-in-loop-s c = omega (arith, small (goal.at.overflow_mul-code-in-loop-s c).In-loop-s)
 
-pub returns-then-s-eq3 : goal.returns-then-s-eq3
-returns-then-s-eq3 c = code_three c.args.n c.args.k c.args.s.pairs c.args.s.tests c.args.s.trials c.digits.ensures.0 c.digits-2.ensures.0 c.digits-3.ensures.0 c.if-s-eq3.true
+pub overflow_mul-code-in-loop-s-2 : goal.overflow_mul-code-in-loop-s-2
+overflow_mul-code-in-loop-s-2 c =
+    let s = small_at c.args.shared.now c.requires.small c.loop-s.s-index (omega arith) in
+    omega (arith, s.0)
+
+pub overflow_add-code-in-loop-s : goal.overflow_add-code-in-loop-s
+overflow_add-code-in-loop-s c =
+    let s = small_at c.args.shared.now c.requires.small c.loop-s.s-index (omega arith) in
+    omega (arith, s.0, s.1)
+
+pub overflow_add-code-in-loop-s-2 : goal.overflow_add-code-in-loop-s-2
+overflow_add-code-in-loop-s-2 c =
+    let s = small_at c.args.shared.now c.requires.small c.loop-s.s-index (omega arith) in
+    omega (arith, s.0, s.1, small (goal.at.overflow_add-code-in-loop-s-2 c).In-loop-s)
+
+pub loop-s-preserved : goal.loop-s-preserved
+loop-s-preserved c = rw c.loop-s.invariant (code_turn (10 * c.args.n + c.args.k) c.args.shared.now c.loop-s.s-index _ (omega arith))
 
 pub returns : goal.returns
-returns c = code_four c.args.n c.args.k c.args.s.pairs c.args.s.tests c.args.s.trials c.digits.ensures.0 c.digits-2.ensures.0 c.digits-3.ensures.0 c.digits-4.ensures.0 (four_pairs _ c.if-s-eq0.false c.if-s-eq1.false c.if-s-eq2.false c.if-s-eq3.false c.requires.n_bound.2)
+unfolding code_of
+returns c = c.loop-s.invariant ∙ ap (λ (vs : List SharedVertex). code_on (10 * c.args.n + c.args.k) (matches_in vs)) (take_all c.loop-s.s-index c.args.shared.now (omega arith))
