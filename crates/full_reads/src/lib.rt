@@ -19,7 +19,7 @@ impl<R: Read> Source<R> {
         ensures bytes { bytes_left R.remaining result ≡ R.remaining reader }
     {
         Source {
-            reader: reader,
+            reader,
             failed: None,
         }
     }
@@ -43,7 +43,8 @@ impl<R: Read> Source<R> {
         }
     }
 
-    // Reads until the piece is full, the input ends or a read fails, and answers how many bytes came, which stand at its front.
+    // Reads until the piece is full, the input ends or a read fails, and answers how many bytes came, which stand at its front. A loop over reads, since std's
+    // `read_exact` says nothing of the bytes that came before a failure.
     pub fn read_full(&mut self, piece: &mut [u8]) -> usize
         ensures within { result ≤ length piece.new }
         ensures bytes { Consumes (bytes_left R.remaining self.old) (bytes_left R.remaining self.new) (take result piece.new) }
@@ -74,10 +75,7 @@ impl<R: Read> Source<R> {
     pub fn finish(&mut self) -> io::Result<()>
         ensures { IsOk result ↔ HasNotFailed self.old }
     {
-        match self.failed.take() {
-            Some(error) => Err(error),
-            None => Ok(()),
-        }
+        self.failed.take().map_or(Ok(()), Err)
     }
 }
 
