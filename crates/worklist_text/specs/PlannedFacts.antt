@@ -3,10 +3,10 @@
 use Rattle.std.specs.Prelude.{ℕ, zero, suc, ◌*◌, ◌≤◌, ◌<◌, min, ◌≡◌, refl, Bool, true, false, List, [], ◌∷◌, ◌++◌, length, take, replicate}
 use Rattle.std.proofs.Common.{mul-le-mul, zero-mul, le_refl, le_of_suc-le-suc, arith, sym, ap, ◌∙◌, eq-eqb}
 use Rattle.std.proofs.lemmas.List.{length-replicate}
+use Rattle.std.proofs.Math.Seq.{length-take-le}
 use Rattle.lists.specs.Bool.{every_of, ◌also◌, end}
 use Rattle.lists.specs.Range.{AllIn, all_in_append, all_in_weaken}
 use Rattle.lists.specs.Refusals.{Check, check, unless, refusal}
-use Rattle.lists.specs.Writes.{numbers, Wrote, Room}
 use Rattle.numbers.specs.Ranges.{within_high}
 use Rattle.grid.specs.declared.Sizes.{Sizes}
 use Rattle.grid.specs.CellsFacts.{before_same}
@@ -122,6 +122,10 @@ few_places C d h k = mul-le-mul h k
 pub few_pairs : (C : ℕ) → C ≤ most_worklist_cells → C * C ≤ most_worklist_cells * most_worklist_cells
 few_pairs C h = mul-le-mul h h
 
+-- as many of m zeros are lent
+pub lent_length : (n m : ℕ) {k : ℕ} → n ≡ k → n ≤ m → length (take n (replicate {A = ℕ} m 0)) ≡ k
+lent_length n m e h = length-take-le n (replicate m 0) (omega (arith, length-replicate {A = ℕ} m 0)) ∙ e
+
 -- check 4 of one side of C triangles
 abbrev fits_triangles : ℕ → Elements → Bool
 fits_triangles C es = elements_right (cells_of (triangles C) 3) (cells_of (triangles C) 4) es
@@ -162,8 +166,8 @@ short_text s vertices edges a l e₁ e₂ e₃ e₄ e₅ e₆ e₇ =
         let r = short_places s.cells a.trial h.1 in
         sized_by x l (e₁ ∙ t) (e₂ ∙ r) e₃ e₄ (e₅ ∙ ap (λ (n : ℕ). 3 * n) t) (e₆ ∙ ap (λ (n : ℕ). 3 * n) r) e₇
 
-pub short_wrote : (s : Sizes) (vertices edges : List ℕ) (a : Assembly) (l : Lists) {kinds xs ys : List ℕ} {r : ℕ} → kinds ≡ triangles s.cells
-    → Wrote numbers xs ys 0 r (planned_text (planning_with (mesh_with s kinds vertices edges) a) l)
+pub short_same : (s : Sizes) (vertices edges : List ℕ) (a : Assembly) (l : Lists) {kinds text : List ℕ} → kinds ≡ triangles s.cells
+    → text ≡ planned_text (planning_with (mesh_with s kinds vertices edges) a) l
     → length l.test_dofs ≡ s.cells * min most_dim (dim a.test.triangle)
     → length l.trial_dofs ≡ s.cells * min most_dim (dim a.trial.triangle)
     → length l.test_colours ≡ s.cells
@@ -171,8 +175,8 @@ pub short_wrote : (s : Sizes) (vertices edges : List ℕ) (a : Assembly) (l : Li
     → length l.test_owners ≡ 3 * (s.cells * min most_dim (dim a.test.triangle))
     → length l.trial_owners ≡ 3 * (s.cells * min most_dim (dim a.trial.triangle))
     → length l.work ≡ 3 * (s.cells * s.cells)
-    → Wrote numbers xs ys 0 r (right_text (planning_with (mesh_of s vertices edges) a))
-short_wrote s vertices edges a l k w e₁ e₂ e₃ e₄ e₅ e₆ e₇ = rw (short_text s vertices edges a l e₁ e₂ e₃ e₄ e₅ e₆ e₇) at (rw k at w)
+    → text ≡ right_text (planning_with (mesh_of s vertices edges) a)
+short_same s vertices edges a l k w e₁ e₂ e₃ e₄ e₅ e₆ e₇ = rw (short_text s vertices edges a l e₁ e₂ e₃ e₄ e₅ e₆ e₇) at (rw k at w)
 
 -- ---- what planning answers
 
@@ -221,11 +225,3 @@ module _ (x : Planning) (l : Lists) {r : Planned} (answers : r ≡ plan x l) whe
 
   pub refused_line_holds : {n : ℕ} → r ≡ refused n → refused_line n ≡ planned_text x l
   refused_line_holds {n} e = sym (refused_text x l n (sym answers ∙ e))
-
--- room for the text of few cells
-pub room_for : (x : Planning) (l : Lists) (text : List ℕ) {rs : List ℕ} → rs ≡ planned_text x l → x.mesh.cells ≤ most_worklist_cells → most_text ≤ length text → Room numbers text 0 rs
-room_for x l text e small long = rw e (omega (arith, text_short x l small))
-
--- room for a refusal
-pub refused_room : (n : ℕ) (text : List ℕ) → most_text ≤ length text → Room numbers text 0 (refused_line n)
-refused_room n text long = omega (arith, refused_short n)

@@ -1,6 +1,6 @@
--- The text of what planning answers, and how it stands in the array that is lent for it. Assumes nothing.
-use Rattle.std.specs.Prelude.{ℕ, zero, suc, ◌*◌, ◌≤◌, ◌≡◌, length, drop}
-use mathlib.Core.List.{List, ◌++◌, flat_map}
+-- The text of what planning answers, and how long it can be. Assumes nothing.
+use Rattle.std.specs.Prelude.{ℕ, zero, suc, ◌*◌}
+use mathlib.Core.List.{List, flat_map}
 use Rattle.job.specs.Job.{most_worklist_cells}
 use Rattle.plans.specs.Planning.{Planning, Lists, lists_for, plan_refusal, work_records}
 use Rattle.worklist_text.specs.Text.{line_of, refused_line}
@@ -19,9 +19,3 @@ right_text x = planned_text x (lists_for x)
 -- the most bytes of the text, 49,152: a line of at most 12 bytes for each pair of cells
 abbrev pub most_text : ℕ
 most_text = 12 * (most_worklist_cells * most_worklist_cells)
-
--- the text stands at the front of an array of so many bytes, r is its length, and the rest of the array stays
-pub record Printed (before after : List ℕ) (r : ℕ) (text : List ℕ) : Type 0 where
-  pub array : after ≡ text ++ drop r before
-  pub count : r ≡ length text
-  pub within : r ≤ most_text

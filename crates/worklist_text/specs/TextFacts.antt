@@ -1,10 +1,11 @@
 -- What the code of the text rests on: digits, lines, and how long they are. Assumes nothing.
-use Rattle.std.specs.Prelude.{ℕ, zero, suc, ◌+◌, ◌*◌, ◌/◌, ◌%◌, ◌≤◌, ◌<◌, ◌^◌, ◌≡◌, refl, cond, length, get_or, take, set, ltb}
-use Rattle.std.proofs.Common.{one-mul, add-one, arith, sym, ap, ◌∙◌, ⊎_elim, length-append, take_all, lt-ltb, le-ltb}
+use Rattle.std.specs.Prelude.{ℕ, zero, suc, ◌+◌, ◌*◌, ◌/◌, ◌≤◌, ◌<◌, ◌^◌, ◌≡◌, refl, cond, length, get_or, take, ltb}
+use Rattle.std.proofs.Common.{add-one, arith, sym, ap, ◌∙◌, ⊎_elim, length-append, take_all, lt-ltb, le-ltb}
 use mathlib.Core.List.{List, [], ◌∷◌, ◌++◌, flat_map, append_assoc}
 use Rattle.lists.specs.Bounded.{lt_or_le}
 use Rattle.lists.specs.Range.{range, flat_map_range, flat_map_none, flat_map_below, flat_map_take, AllIn}
-use Rattle.lists.specs.Writes.{numbers, Wrote, Room, wrote_length}
+use Rattle.std.specs.Fmt as fmt
+use Rattle.std.proofs.lemmas.Fmt.{AppendsLastDigit, decimal_from_appends, length-decimal-le}
 use Rattle.cell_pairs.specs.declared.WorkRecord.{WorkRecord}
 use Rattle.cell_pairs.specs.Records.{rec, width, flat, record_at}
 use Rattle.cell_pairs.specs.RecordsFacts.{length_flat, flat_at}
@@ -13,27 +14,17 @@ use Rattle.worklist_text.specs.Lines.{refused_word, lines_of}
 
 -- ---- digits
 
--- one digit
-pub decimal_one : (n : ℕ) → n < 10 → decimal n ≡ (48 + n % 10) ∷ []
+-- the text that the library prints
+appends : AppendsLastDigit digits
 unfolding digits
-decimal_one n h = rw (lt-ltb n 10 h)
+appends =
+    record {
+      one = λ k n h. rw (lt-ltb n 10 h) (ap (λ (d : ℕ). (48 + d) ∷ []) (omega (arith, h)));
+      more = λ k n h. rw (le-ltb n 10 h);
+    }
 
--- more steps than a number has digits add nothing
-digits_more : (k n : ℕ) → n < 10 ^ suc k → digits (suc (suc k)) n ≡ digits (suc k) n
-unfolding digits
-digits_more zero n h = rw (lt-ltb n 10 (omega arith))
-digits_more (suc k) n h = ap (λ (l : List ℕ). cond (ltb n 10) [] l ++ ((48 + n % 10) ∷ [])) (digits_more k (n / 10) (omega arith))
-
-digits_tenth : (k n : ℕ) → 10 ≤ n → n < 10 ^ suc (suc k) → digits (suc (suc k)) n ≡ digits (suc (suc k)) (n / 10) ++ ((48 + n % 10) ∷ [])
-unfolding digits
-digits_tenth k n h b = step ∙ ap (λ (l : List ℕ). l ++ ((48 + n % 10) ∷ [])) (sym (digits_more k (n / 10) (omega arith)))
-  where
-    step : digits (suc (suc k)) n ≡ digits (suc k) (n / 10) ++ ((48 + n % 10) ∷ [])
-    step = rw (le-ltb n 10 h)
-
--- a number of ten or more: the digits of a tenth, and the last
-pub decimal_more : (n : ℕ) → 10 ≤ n → n < 2 ^ 32 → decimal n ≡ decimal (n / 10) ++ ((48 + n % 10) ∷ [])
-decimal_more n h b = digits_tenth 8 n h (omega arith)
+pub decimal_printed : (n : ℕ) → n < 2 ^ 32 → fmt.decimal n ≡ decimal n
+decimal_printed n h = sym (decimal_from_appends digits appends 10 n (omega arith) (length-decimal-le 10 n (omega arith) (omega arith) (omega arith)))
 
 -- a number below 10^k has at most k digits
 digits_short : (j k n : ℕ) → n < 10 ^ suc k → length (digits j n) ≤ suc k
@@ -52,14 +43,6 @@ digits_short (suc j) (suc k) n h =
 pub decimal_short : (n : ℕ) → n < 1000 → length (decimal n) ≤ 3
 decimal_short n h = digits_short 10 2 n (omega arith)
 
--- ---- room for one run after another
-
-pub room_first : (xs : List ℕ) (at : ℕ) (rs ss : List ℕ) → Room numbers xs at (rs ++ ss) → Room numbers xs at rs
-room_first xs at rs ss h = omega (arith, length-append rs ss)
-
-pub room_second : {xs ys : List ℕ} {at m : ℕ} {rs : List ℕ} (ss : List ℕ) → Wrote numbers xs ys at m rs → Room numbers xs at (rs ++ ss) → Room numbers ys m ss
-room_second {xs} {ys} {at} {m} {rs} ss w h = omega (arith, length-append rs ss, w.cursor, wrote_length w)
-
 -- ---- lines
 
 -- a line is three numbers, each with the byte after it
@@ -74,19 +57,6 @@ line_length p i j = rw (line_parts p i j) (simp length-append (omega arith))
 pub refused_parts : (n : ℕ) → refused_line n ≡ refused_word ++ (decimal n ++ (10 ∷ []))
 unfolding refused_line
 refused_parts n = refl
-
--- eight stores in a row
-pub wrote_word : (xs : List ℕ) (at : ℕ)
-    → Wrote numbers xs (set (set (set (set (set (set (set (set xs at 114) (at + 1) 101) (at + 2) 102) (at + 3) 117) (at + 4) 115) (at + 5) 101) (at + 6) 100) (at + 7) 32) at (at + 8) refused_word
-wrote_word xs at =
-    let e₁ : at + 1 ≡ suc at = omega arith in
-    let e₂ : at + 2 ≡ suc (suc at) = omega arith in
-    let e₃ : at + 3 ≡ suc (suc (suc at)) = omega arith in
-    let e₄ : at + 4 ≡ suc (suc (suc (suc at))) = omega arith in
-    let e₅ : at + 5 ≡ suc (suc (suc (suc (suc at)))) = omega arith in
-    let e₆ : at + 6 ≡ suc (suc (suc (suc (suc (suc at))))) = omega arith in
-    let e₇ : at + 7 ≡ suc (suc (suc (suc (suc (suc (suc at)))))) = omega arith in
-    record { list = rw (one-mul at, e₁, e₂, e₃, e₄, e₅, e₆, e₇); cursor = refl }
 
 -- the lines of records laid out as numbers
 flat_map_each : {A B : Type 0} (f : A → List B) (xs : List A) (d : A) (n : ℕ) → n ≤ length xs → flat_map (λ k. f (get_or xs k d)) (range n) ≡ flat_map f (take n xs)

@@ -1,23 +1,19 @@
--- What `worklist` prints, by what reading the job answers and leaves, by its first 7 bytes, and how it stands in the array. Assumes nothing.
-use Rattle.std.specs.Prelude.{ℕ, zero, suc, ◌+◌, ◌*◌, ◌≤◌, ◌<◌, ◌≡◌, refl, List, ◌++◌, length, take, drop}
+-- What `worklist` prints, by what reading the job answers and leaves, by its first 7 bytes. Assumes nothing.
+use Rattle.std.specs.Prelude.{ℕ, zero, suc, ◌+◌, ◌*◌, ◌≤◌, ◌<◌, ◌≡◌, refl, List, ◌++◌, length, take}
 use Rattle.std.proofs.Common.{arith, sym, ap, ◌∙◌, ⊎_elim, take_all}
 use Rattle.std.proofs.Math.Bool.{true}
 use Rattle.std.proofs.lemmas.List.{take-append-le}
 use Rattle.lists.specs.Bounded.{lt_or_le}
 use Rattle.lists.specs.Refusals.{refusal_first, refusal_rest}
-use Rattle.lists.specs.Stores.{sets_front}
-use Rattle.lists.specs.Writes.{numbers, Wrote}
 use Rattle.plans.specs.Planning.{lists_for, plan_checks, plan_refusal}
 use Rattle.job.specs.declared.JobNumbers.{JobNumbers}
-use Rattle.job.specs.declared.JobRead.{JobRead}
-use Rattle.job.specs.declared.JobRead.TheVariants.{Whole, Refused}
-use Rattle.job.specs.Job.{most_worklist_cells, job_checks, job_refusal, read_job, vertex_list_of, edge_list_of}
+use Rattle.job.specs.Job.{Whole, Refused, most_worklist_cells, job_checks, job_refusal, read_job, vertex_list_of, edge_list_of}
 use Rattle.job.specs.JobFacts.{read_numbers, read_refusal, limited_small, take_vertices, take_edges}
 use Rattle.job.specs.Head.{read_head, head_number, Says, size_refusal, enough_bytes}
 use Rattle.job.proofs.HeadFacts.{head_alone, enough_seven, head_wrong, head_size, size_refused, head_longer}
 use Rattle.worklist_text.specs.Text.{refused_line, numbers_planning, job_planning, worklist_refusal, text_answer, worklist}
 use Rattle.worklist_text.specs.TextFacts.{refused_short}
-use Rattle.worklist_text.specs.PlannedText.{answer_text, planned_text, right_text, most_text, Printed}
+use Rattle.worklist_text.specs.PlannedText.{answer_text, planned_text, right_text, most_text}
 use Rattle.worklist_text.specs.PlannedFacts.{text_short}
 
 -- ---- what `worklist` prints
@@ -56,27 +52,26 @@ worklist_short s = go (job_refusal s true) refl
     go (suc v) e = let few : length (refused_line (suc v)) ≤ most_text = omega (arith, refused_short (suc v)) in rw (refused_worklist s {v = suc v} (sym e) (omega arith)) at few
 
 -- what reading the job answers and leaves
-module _ (s : List ℕ) {read : JobRead} (answers : read ≡ read_job s true) where
+module _ (s : List ℕ) where
   -- the numbers: the text that they are planned to, with the fronts of the two lists
-  pub numbers_wrote : {n : JobNumbers} → read ≡ Whole n → (vs es : List ℕ) → 3 * most_worklist_cells ≤ length vs → 3 * most_worklist_cells ≤ length es → {vs' es' : List ℕ}
-      → vs' ≡ vertex_list_of s true vs → es' ≡ edge_list_of s true es → {xs ys : List ℕ} {r : ℕ}
-      → Wrote numbers xs ys 0 r (right_text (numbers_planning n (take (3 * n.cells) vs') (take (3 * n.cells) es')))
-      → Wrote numbers xs ys 0 r (worklist s)
+  pub numbers_text : {n : JobNumbers} → Whole n ≡ read_job s true → (vs es : List ℕ) → 3 * most_worklist_cells ≤ length vs → 3 * most_worklist_cells ≤ length es → {vs' es' : List ℕ}
+      → vs' ≡ vertex_list_of s true vs → es' ≡ edge_list_of s true es → {text : List ℕ}
+      → text ≡ right_text (numbers_planning n (take (3 * n.cells) vs') (take (3 * n.cells) es')) → text ≡ worklist s
   unfolding job_planning
-  numbers_wrote e vs es hv he ev ee w =
-      let said = read_numbers s true answers e in
+  numbers_text answers vs es hv he ev ee same =
+      let said = read_numbers s true answers refl in
       let none = said.0 in
       let small = limited_small s none in
       let vertices = take_vertices s true none vs (omega arith) in
       let edges = take_edges s true none es (omega arith) in
-      rw (planned_worklist s none) at (rw (said.1, ev, ee, vertices, edges) at w)
+      rw (planned_worklist s none) at (rw (said.1, ev, ee, vertices, edges) at same)
 
-  pub numbers_small : {n : JobNumbers} → read ≡ Whole n → n.cells ≤ most_worklist_cells
-  numbers_small e = let said = read_numbers s true answers e in rw said.1 (limited_small s said.0)
+  pub numbers_small : {n : JobNumbers} → Whole n ≡ read_job s true → n.cells ≤ most_worklist_cells
+  numbers_small answers = let said = read_numbers s true answers refl in rw said.1 (limited_small s said.0)
 
   -- the refusal
-  pub refusal_line : {v : ℕ} → read ≡ Refused v → refused_line v ≡ worklist s
-  refusal_line e = let said = read_refusal s true answers e in refused_worklist s said.0 said.1
+  pub refusal_line : {v : ℕ} → Refused v ≡ read_job s true → refused_line v ≡ worklist s
+  refusal_line answers = let said = read_refusal s true answers refl in refused_worklist s said.0 said.1
 
 -- ---- what the first 7 bytes decide
 
@@ -117,14 +112,3 @@ enough_text s rest long = go (head_number (read_head s)) refl
     go zero e = right (record { number = e; cells = refl }) (rw e at long)
     go (suc v) e =
         sym (head_wrong_text (s ++ rest) (ap head_number first ∙ e) (omega arith)) ∙ head_wrong_text s (ap head_number (head_alone s) ∙ e) (omega arith)
-
--- ---- how the text stands in the array
-
-pub printed : {xs ys : List ℕ} {r : ℕ} {rs : List ℕ} → Wrote numbers xs ys 0 r rs → length rs ≤ most_text → most_text ≤ length xs → Printed xs ys r rs
-printed {xs} {ys} {r} {rs} w h long =
-    let count : r ≡ length rs = omega (arith, w.cursor) in
-    record {
-      array = w.list ∙ sets_front xs rs (omega arith) ∙ ap (λ (k : ℕ). rs ++ drop k xs) (sym count);
-      count = count;
-      within = omega arith;
-    }

@@ -4,4 +4,9 @@
 mod text;
 mod worklist;
 
-pub use worklist::{MOST_TEXT, refused_text, worklist_text};
+use arrayvec::ArrayString;
+pub use text::refused_text;
+pub use worklist::{MOST_TEXT, worklist_text};
+
+// The text: no work list of at most 64 cells has a longer one.
+pub type Text = ArrayString<MOST_TEXT>;

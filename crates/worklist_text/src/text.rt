@@ -1,87 +1,50 @@
-// Writes the text that `worklist` prints, as bytes: decimal numbers, lines, `refused n`.
-ghost use Rattle.std.specs.Prelude.{[], ◌∷◌, ◌++◌, ◌+◌, ◌*◌, ◌≤◌, ◌<◌, length};
-ghost use Rattle.lists.specs.Writes.{numbers, Wrote, Room};
+// The text that `worklist` prints: decimal numbers, lines, `refused n`.
+ghost use Rattle.std.specs.Prelude.{◌≡◌, ◌++◌, ◌+◌, ◌≤◌, length};
 ghost use Rattle.worklist_text.specs.Text.{decimal, line_of, refused_line};
-ghost use Rattle.worklist_text.specs.Lines.{refused_word, lines_of};
+ghost use Rattle.worklist_text.specs.Lines.{lines_of};
+ghost use Rattle.worklist_text.specs.PlannedText.{most_text};
 
+use crate::Text;
 use cell_pairs::{WIDTH, WorkRecord, record_at};
+use itoa::Buffer;
 
-// One byte.
-fn put(text: &mut [u8], at: usize, x: u8) -> usize
-    requires { Room numbers text.old at (x ∷ []) }
-    ensures { Wrote numbers text.old text.new at result (x ∷ []) }
+// Appends a number and what stands after it.
+fn push_number(text: &mut Text, n: u32, after: &str)
+    requires { length text.old.bytes + length (decimal n ++ after.now) ≤ most_text }
+    ensures { text.new.bytes ≡ text.old.bytes ++ decimal n ++ after.now }
 {
-    text[at] = x;
-    at + 1
+    text.push_str(Buffer::new().format(n));
+    text.push_str(after);
 }
 
-// The decimal digits of n.
-fn put_decimal(text: &mut [u8], at: usize, n: u32) -> usize
-    requires { Room numbers text.old at (decimal n) }
-    ensures { Wrote numbers text.old text.new at result (decimal n) }
+// Appends the line of a record.
+fn push_line(text: &mut Text, item: WorkRecord)
+    requires { length text.old.bytes + length (line_of item) ≤ most_text }
+    ensures { text.new.bytes ≡ text.old.bytes ++ line_of item }
 {
-    let digit = (48 + n % 10) as u8;
-    if n < 10 {
-        put(text, at, digit)
-    } else {
-        let next = put_decimal(text, at, n / 10);
-        put(text, next, digit)
-    }
-}
-
-// A number and the byte after it.
-fn put_number(text: &mut [u8], at: usize, n: u32, after: u8) -> usize
-    requires { Room numbers text.old at (decimal n ++ (after ∷ [])) }
-    ensures { Wrote numbers text.old text.new at result (decimal n ++ (after ∷ [])) }
-{
-    let next = put_decimal(text, at, n);
-    put(text, next, after)
-}
-
-// The line of a record.
-fn put_line(text: &mut [u8], at: usize, item: WorkRecord) -> usize
-    requires { Room numbers text.old at (line_of item) }
-    ensures { Wrote numbers text.old text.new at result (line_of item) }
-{
-    let a = put_number(text, at, item.pattern, b' ');
-    let b = put_number(text, a, item.test, b' ');
-    put_number(text, b, item.trial, b'\n')
+    push_number(text, item.pattern, " ");
+    push_number(text, item.test, " ");
+    push_number(text, item.trial, "\n");
 }
 
 // The lines of a work list.
-pub(crate) fn put_lines(work: &[u32], text: &mut [u8], at: usize) -> usize
-    requires { Room numbers text.old at (lines_of work.now) }
-    ensures { Wrote numbers text.old text.new at result (lines_of work.now) }
+pub(crate) fn lines_text(work: &[u32]) -> Text
+    requires { length (lines_of work.now) ≤ most_text }
+    ensures { result.bytes ≡ lines_of work.now }
 {
-    let n = work.len() / WIDTH;
-    let mut next = at;
-    for k in 0..n {
-        next = put_line(text, next, record_at(work, k));
+    let mut text = Text::new();
+    for k in 0..work.len() / WIDTH {
+        push_line(&mut text, record_at(work, k));
     }
-    next
-}
-
-// `refused `.
-fn put_word(text: &mut [u8], at: usize) -> usize
-    requires { at + 8 ≤ length text.old }
-    ensures { Wrote numbers text.old text.new at result refused_word }
-{
-    text[at] = b'r';
-    text[at + 1] = b'e';
-    text[at + 2] = b'f';
-    text[at + 3] = b'u';
-    text[at + 4] = b's';
-    text[at + 5] = b'e';
-    text[at + 6] = b'd';
-    text[at + 7] = b' ';
-    at + 8
+    text
 }
 
 // `refused n`.
-pub(crate) fn put_refused(text: &mut [u8], at: usize, n: u32) -> usize
-    requires { Room numbers text.old at (refused_line n) }
-    ensures { Wrote numbers text.old text.new at result (refused_line n) }
+pub fn refused_text(n: u32) -> Text
+    ensures { result.bytes ≡ refused_line n }
 {
-    let next = put_word(text, at);
-    put_number(text, next, n, b'\n')
+    let mut text = Text::new();
+    text.push_str("refused ");
+    push_number(&mut text, n, "\n");
+    text
 }

@@ -1,12 +1,14 @@
--- `worklist_text::worklist::worklist_text` meets its contract. Assumes nothing.
-use Prim.Native.Nat.{◌≤◌}
-use native.Mathlib.Omega.{arith}
-use lib.ListN.{length}
-use Rattle.worklist_text.specs.PlannedText.{most_text}
-use Rattle.worklist_text.specs.WorklistFacts.{printed, worklist_short}
+-- The text of the numbers that were read, or of the refusal. Assumes nothing.
+use Rattle.std.proofs.Common.{arith, ◌∙◌}
+use Rattle.worklist_text.specs.WorklistFacts.{numbers_text, numbers_small, refusal_line}
 use Rattle.worklist_text.proofs.worklist.worklist_text.Goals as goal
 
-pub returns : goal.returns
-returns c =
-    let long : most_text ≤ length c.args.text.now = omega arith in
-    printed c.put_job.ensures (worklist_short c.args.bytes.now) long
+pub numbers_text-requires-clause-few : goal.numbers_text-requires-clause-few
+numbers_text-requires-clause-few c = numbers_small c.args.bytes.now c.in-Ok.ensures.value
+
+pub returns-in-Ok : goal.returns-in-Ok
+returns-in-Ok c =
+    numbers_text c.args.bytes.now c.in-Ok.ensures.value _ _ (omega arith) (omega arith) c.in-Ok.ensures.vertex_list_after c.in-Ok.ensures.edge_list_after c.numbers_text.ensures
+
+pub returns-in-Err : goal.returns-in-Err
+returns-in-Err c = c.refused_text.ensures ∙ rw c.number.ensures (refusal_line c.args.bytes.now c.in-Err.ensures.value)
