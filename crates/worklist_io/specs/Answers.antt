@@ -3,23 +3,15 @@ use Rattle.std.specs.Prelude.{◌*◌, ◌+◌, ◌≤◌, ℕ, ◌≡◌, List,
 use Rattle.job.specs.Head.{read_head, enough_bytes}
 use Rattle.job.specs.Job.{most_worklist_cells}
 use Rattle.worklist_text.specs.Text.{worklist}
-use Rattle.worklist_text.specs.PlannedText.{most_text}
 use Rattle.worklist_io.specs.declared.Answered.{Answered}
 
 -- the most bytes that are kept: one more than the largest job has
 abbrev pub most_bytes : ℕ
 most_bytes = 20 + 12 * most_worklist_cells
 
--- the first r bytes of the array of 49,152 bytes are the text
-pub record Shown (array : List ℕ) (r : ℕ) (text : List ℕ) : Type 0 where
-  pub first : take r array ≡ text
-  pub within : r ≤ most_text
-
--- whatever the bytes that came, if so many did and those that are kept stand in the list, the text is theirs; such bytes there are, as the kept ones are
--- among those that came and have room in the list; and no more came than are enough (`enough_text`)
-pub record Answers (bytes array : List ℕ) (r : Answered) : Type 0 where
-  pub shown : (came : List ℕ) → length came ≡ r.came → take r.kept came ≡ take r.kept bytes → take r.text array ≡ worklist came
-  pub within : r.text ≤ most_text
-  pub among : r.kept ≤ r.came
-  pub room : r.kept ≤ length bytes
-  pub few : r.came ≤ enough_bytes (read_head (take r.kept bytes))
+-- whatever the bytes that came, if so many did and they begin with those that are kept, the text is theirs; such bytes there are, as those that are kept are
+-- among those that came; and no more came than are enough (`enough_text`)
+pub record Answers (r : Answered) : Type 0 where
+  pub shown : (came : List ℕ) → length came ≡ r.came → take (length r.kept.now) came ≡ r.kept.now → r.text.bytes ≡ worklist came
+  pub among : length r.kept.now ≤ r.came
+  pub few : r.came ≤ enough_bytes (read_head r.kept.now)
