@@ -11,32 +11,35 @@ use Rattle.std.proofs.lemmas.List.Edits.{sets}
 use borrow.Author.Tests.{eqb-true, ltb-true, lt-ltb, le-ltb}
 use Rattle.lists.specs.Bool.{◌and◌, ◌or◌, every, every_at, and_left, and_right, or_left, or_cases}
 use Rattle.lists.specs.Bounded.{lt_or_le}
-use Rattle.lists.specs.Refusals.{Check, check, refusal, unless}
+use Rattle.lists.specs.Refusals.{Check, check, refusal, unless, refusal_fails, refusal_passes}
+use Rattle.refusals.specs.declared.Refusal.{Refusal}
+use Rattle.refusals.specs.declared.Refusal.TheVariants.{Record, Kind}
+use Rattle.refusals.specs.Numbers.{number_of}
 use Rattle.grid.specs.Cells.{part}
 use Rattle.grid.specs.Mesh.{most_cells, most_vertices, most_edges}
 use Rattle.numbers.specs.Ranges.{within}
 use Rattle.lent_numbers.specs.Lent.{Touching, touching_checks}
+use Rattle.lent_numbers.specs.Entries.{touching_entry}
 use Rattle.integrands.specs.Columns.{Held}
 use Rattle.scatter.specs.Adding.{local_rows, local_columns, local_values}
 use Rattle.scatter.specs.AddingFacts.{local_values_ext}
-use Rattle.scatter.specs.Entries.{entry_at}
+use Rattle.scatter.specs.Entries.{entry_at, HasRoom}
 use Rattle.function.specs.Elements.{most_dim, dims_right}
 use Rattle.integrands.specs.Terms.{integrand_right}
 use Rattle.cell_pairs.specs.Blocks.{Block, block, block_at, entries_before}
 use Rattle.plans.specs.declared.PlanNumbers.{PlanNumbers}
-use Rattle.runs.specs.Runs.{Run, Plan, EntryLists, entry_lists, written, blocks, entries_on, entries_to, ranges_right, counts_right, kinds_fit, plan_right, pair_left, record_right, is_touching, entries_right, entry_place}
-use Rattle.boundary_assemblers.specs.RunFacts.{Dims, kind_few, state_passed, Counts, standing}
-use Rattle.boundary_assemblers.specs.Forms.{checked, state_checked, dofs_at, pair_at}
+use Rattle.runs.specs.Runs.{Run, Plan, EntryLists, entry_lists, written, blocks, entries_on, entries_to, ranges_right, counts_right, kinds_fit, plan_right, pair_left, record_right, is_touching, entries_right, entry_place, kinds_put, entries_refusal, add_entries, entries_written, advance, Reply, Answer, accepted, refused}
+use Rattle.boundary_assemblers.specs.RunFacts.{Dims, kind_few, state_number, Passed, Counts, Standing, standing}
+use Rattle.boundary_assemblers.specs.AddFacts.{dofs_long, by_state, by_rest, by_none}
+use Rattle.boundary_assemblers.specs.Forms.{dofs_at, pair_at}
 use Rattle.boundary_assemblers.specs.declared.Pair.{Pair}
-use Rattle.boundary_assemblers.specs.declared.Checked.{Checked}
-use Rattle.boundary_assemblers.specs.declared.Checked.TheVariants.{Passed}
 
 -- 21 reads the elements among the ranges, so that it does no harm to read them again with the entry lists
-pub sized_same : (r : Run) (l : Plan) (b : Bool) {c : Checked}
-    → c ≡ state_checked r l (dims_right r.numbers.triangles r.numbers.quads r.numbers.test r.numbers.trial and b) → c ≡ state_checked r l b
-unfolding state_checked refusal unless every ◌and◌ ranges_right
-sized_same r l b h =
-    h ∙ ap (λ (x : Bool). checked (unless x 21 (refusal (check 20 (pair_left r) ∷ check 22 (record_right r l) ∷ []))) (pair_at r l))
+pub sized_same : (r : Run) (l : Plan) (b : Bool)
+    → state_number r l (dims_right r.numbers.triangles r.numbers.quads r.numbers.test r.numbers.trial and b) ≡ state_number r l b
+unfolding refusal unless every ◌and◌ ranges_right
+sized_same r l b =
+    ap (λ (x : Bool). unless x 21 (refusal (check 20 (pair_left r) ∷ check 22 (record_right r l) ∷ [])))
     (go (within 1 most_cells r.numbers.cells) (within 3 most_vertices r.numbers.vertices) (within 3 most_edges r.numbers.edges) (dims_right r.numbers.triangles r.numbers.quads r.numbers.test r.numbers.trial) (integrand_right r.numbers.integrand) (counts_right r) (kinds_fit r l) (plan_right r l))
   where
     go : (x y z d f c k w : Bool) → ((x and y and z and d and f) and c and k and w and (d and b)) ≡ ((x and y and z and d and f) and c and k and w and b)
@@ -215,7 +218,7 @@ all_pairs_in : (r : Run) → Counts r → pairs_in (blocks r.numbers) ≡ r.numb
 unfolding pairs_in
 all_pairs_in r h = omega (arith, h.touching)
 
-pub fit : (r : Run) (l : Plan) (lists : EntryLists) {e : Pair} → Passed e ≡ state_checked r l (entries_right r lists) → r.entries ≡ true → put_at r e.test.kind e.trial.kind ≡ true → Fit r e lists
+pub fit : (r : Run) (l : Plan) (lists : EntryLists) {e : Pair} → Passed r l (entries_right r lists) e → r.entries ≡ true → put_at r e.test.kind e.trial.kind ≡ true → Fit r e lists
 unfolding entries_right
 fit r l lists {e} s run put =
     let h = standing r l (entries_right r lists) s in
@@ -245,7 +248,7 @@ written_at r e ts us entry lists =
     (sets lists.values (entry_place r) (local_values entry e.test.dim e.trial.dim))
 
 -- by the local matrix of the record's pair
-pub values_are : (r : Run) (l : Plan) (sized : Bool) {e : Pair} → Passed e ≡ state_checked r l sized
+pub values_are : (r : Run) (l : Plan) (sized : Bool) {e : Pair} → Passed r l sized e
     → (lists : EntryLists) {entries : List Float} (entry : ℕ → ℕ → Float) → Held e.test.dim e.trial.dim entries entry
     → written_at r e (dofs_at l.test_dofs e.test) (dofs_at l.trial_dofs e.trial) (entry_at entries e.test.dim) lists ≡ written r l entry lists
 unfolding part
@@ -253,12 +256,68 @@ values_are r l sized {e} s lists {entries} entry held =
     ap (λ (v : List Float). entry_lists (sets lists.rows (entry_place r) (local_rows (dofs_at l.test_dofs e.test) (dofs_at l.trial_dofs e.trial)))
     (sets lists.columns (entry_place r) (local_columns (dofs_at l.test_dofs e.test) (dofs_at l.trial_dofs e.trial)))
     (sets lists.values (entry_place r) v)) (local_values_ext (entry_at entries e.test.dim) entry e.test.dim e.trial.dim held.at)
-    ∙ ap (λ (p : Pair). written_at r p (dofs_at l.test_dofs p.test) (dofs_at l.trial_dofs p.trial) entry lists) (state_passed r l sized s).1
+    ∙ ap (λ (p : Pair). written_at r p (dofs_at l.test_dofs p.test) (dofs_at l.trial_dofs p.trial) entry lists) s.pair
+
+-- the entry lists have room for the local matrix
+pub has_room : {r : Run} {ts us : List ℕ} {e : Pair} {lists : EntryLists} {sized : Bool} → Standing r ts us e sized → Fit r e lists
+    → HasRoom (entry_place r) lists.rows lists.columns lists.values (dofs_at ts e.test) (dofs_at us e.trial)
+has_room h f =
+    record {
+      for_rows = rw (dofs_long h.test, dofs_long h.trial) f.rows;
+      for_columns = rw (dofs_long h.test, dofs_long h.trial) f.columns;
+      for_values = rw (dofs_long h.test, dofs_long h.trial) f.values;
+      few = omega (arith, dofs_long h.test, h.test.few);
+      few_trial = omega (arith, dofs_long h.trial, h.trial.few);
+    }
 
 -- by what the code has in hand
-pub written_is : (r : Run) (e : Pair) (lists : EntryLists) (entries : List Float) {at : ℕ} {ts us ts' us' rows columns : List ℕ} {values : List Float}
-    → at ≡ entry_place r → ts ≡ ts' → us ≡ us'
-    → rows ≡ sets lists.rows at (local_rows ts us) → columns ≡ sets lists.columns at (local_columns ts us)
-    → values ≡ sets lists.values at (local_values (entry_at entries e.test.dim) e.test.dim e.trial.dim)
-    → entry_lists rows columns values ≡ written_at r e ts' us' (entry_at entries e.test.dim) lists
-written_is r e lists entries a t u x y z = rw (x, y, z, a, t, u)
+pub written_is : {r : Run} {ts us : List ℕ} {e : Pair} {sized : Bool} → Standing r ts us e sized → (lists : EntryLists) (entries : List Float) {rows columns : List ℕ} {values : List Float}
+    → rows ≡ sets lists.rows (entry_place r) (local_rows (dofs_at ts e.test) (dofs_at us e.trial))
+    → columns ≡ sets lists.columns (entry_place r) (local_columns (dofs_at ts e.test) (dofs_at us e.trial))
+    → values ≡ sets lists.values (entry_place r) (local_values (entry_at entries (length (dofs_at ts e.test))) (length (dofs_at ts e.test)) (length (dofs_at us e.trial)))
+    → entry_lists rows columns values ≡ written_at r e (dofs_at ts e.test) (dofs_at us e.trial) (entry_at entries e.test.dim) lists
+written_is h lists entries x y z = rw (x, y, rw (dofs_long h.test, dofs_long h.trial) at z) refl
+
+-- ---- the ways the entries call ends
+
+module _ (a : Touching) (r : Run) (l : Plan) (lists : EntryLists) where
+  abbrev Entered : Run → Answer → EntryLists → Type 0
+  Entered next answer lists' = (◌≡◌ {A = Reply} (record { run = next; answer = answer }) (add_entries r l lists a)) × (lists' ≡ entries_written r l lists a)
+
+  abbrev sized : Bool
+  sized = entries_right r lists
+
+  -- 21, 20 or 22 turns it down
+  pub entries_by_state : (v : Refusal) → number_of v ≡ state_number r l sized → Entered r (refused (number_of v)) lists
+  unfolding add_entries entries_written entries_refusal kinds_put
+  entries_by_state v e = by_state r l sized (entries_behind r a) lists _ v e
+
+  module _ {e : Pair} (s : Passed r l sized e) where
+    -- 22 by the kinds does
+    pub entries_by_put : put_at r e.test.kind e.trial.kind ≡ false → Entered r (refused 22) lists
+    unfolding add_entries entries_written entries_refusal kinds_put
+    entries_by_put h = by_rest r l sized (entries_behind r a) lists _ s (sym (refusal_fails 22 _ _ h)) Record refl
+
+    module _ (put : put_at r e.test.kind e.trial.kind ≡ true) where
+      -- 23 does
+      pub entries_by_kind : (is_touching e.item.pattern and r.entries) ≡ false → Entered r (refused 23) lists
+      unfolding add_entries entries_written entries_refusal kinds_put
+      entries_by_kind h =
+          by_rest r l sized (entries_behind r a) lists _ s (sym (refusal_passes 22 _ _ put ∙ refusal_fails 23 _ _ h)) Kind refl
+
+      module _ (h : (is_touching e.item.pattern and r.entries) ≡ true) {n : ℕ} (last : n ≡ refusal (touching_checks r.numbers.integrand e.test.dim e.trial.dim a)) where
+        last_is : n ≡ refusal (entries_behind r a e)
+        last_is = last ∙ sym (refusal_passes 22 _ _ put ∙ refusal_passes 23 _ _ h)
+
+        -- one of 9 to 11 does
+        pub entries_by_lent : (v : Refusal) → number_of v ≡ n → Entered r (refused (number_of v)) lists
+        unfolding add_entries entries_written entries_refusal kinds_put
+        entries_by_lent v q = by_rest r l sized (entries_behind r a) lists _ s last_is v q
+
+        -- none does, and the entries are written
+        pub entries_by_none : n ≡ 0 → {lists' : EntryLists} {entries : List Float} → Held e.test.dim e.trial.dim entries (touching_entry r.numbers.integrand a)
+            → lists' ≡ written_at r e (dofs_at l.test_dofs e.test) (dofs_at l.trial_dofs e.trial) (entry_at entries e.test.dim) lists
+            → Entered (record { numbers = r.numbers; entries = r.entries; position = r.position + 1 }) accepted lists'
+        unfolding add_entries entries_written entries_refusal kinds_put advance
+        entries_by_none z held w =
+            by_none r l sized (entries_behind r a) lists _ s last_is z refl (w ∙ values_are r l sized s lists (touching_entry r.numbers.integrand a) held)

@@ -7,6 +7,8 @@ use Rattle.std.proofs.lemmas.Bool.{eqb-false, not-true}
 use Rattle.lists.specs.Bool.{◌and◌, every, every_at, every_fails, every_of, Each, ◌or◌, and_left, and_right, and_both, and_no_left, and_no_right, or_cases, true≢false}
 use Rattle.lists.specs.Total.{gate}
 use Rattle.lists.specs.Refusals.{refusal, refusal_at, answers, accepted, refused as fails, ◌then◌}
+use Rattle.refusals.specs.declared.Refusal.{Refusal}
+use Rattle.refusals.specs.Numbers.{number_of, number_nonzero}
 use Rattle.grid.specs.Cells.{part}
 use Rattle.grid.specs.CellsFacts.{before_le, part_inside}
 use Rattle.grid.specs.Mesh.{most_cells, cells_of, kinds_match}
@@ -23,8 +25,7 @@ use Rattle.runs.specs.Runs.{Run, Plan, Reply, Answer, refused, reply, pairs, rec
 use Rattle.runs.specs.CellDofs.{kind_dim_lem}
 use Rattle.boundary_assemblers.specs.declared.Cell.{Cell}
 use Rattle.boundary_assemblers.specs.declared.Pair.{Pair}
-use Rattle.boundary_assemblers.specs.declared.Checked.TheVariants.{Passed, Refused}
-use Rattle.boundary_assemblers.specs.Forms.{cell_at, cell_behind, dofs_at, pair_at, checked, state_checked}
+use Rattle.boundary_assemblers.specs.Forms.{cell_at, dofs_at, pair_at}
 
 -- the most pairs: C·C
 abbrev pub most_pairs : ℕ
@@ -108,9 +109,9 @@ matched n ks few k =
       dims = kind_dim_lem n ks k;
     }
 
-pub kinds_matched : (r : Run) (l : Plan) → ranges_right r ≡ true → (kinds_fit r l and plan_right r l) ≡ true → Matched r.numbers l.kinds
+pub kinds_matched : (r : Run) (l : Plan) → ranges_right r ≡ true → kinds_fit r l ≡ true → Matched r.numbers l.kinds
 unfolding kinds_fit
-kinds_matched r l a k = matched r.numbers l.kinds (ranges r a).cells (and_left _ _ k)
+kinds_matched r l a k = matched r.numbers l.kinds (ranges r a).cells k
 
 module _ {n : PlanNumbers} {ks : List ℕ} (h : Matched n ks) where
   pub few_kinds : (n.triangles ≤ most_cells) × (n.quads ≤ most_cells)
@@ -132,8 +133,9 @@ module _ {n : PlanNumbers} {ks : List ℕ} (h : Matched n ks) where
     quads_few e = (omega (arith, e, kinds_few ks 4 i), omega (arith, h.cells))
 
     -- so a cell is as the code has it
-    pub cell_is : (es : Elements) {k q : ℕ} → k ≡ get_or ks i 0 → q ≡ kinds_to ks 4 i → cell_behind es k i q ≡ cell_at ks es i
-    cell_is es {k} {q} a e = rw (start_is es e, a) refl
+    pub cell_is : (es : Elements) {k q start dim : ℕ} → k ≡ get_or ks i 0 → q ≡ kinds_to ks 4 i → start ≡ (i - q) * cell_dim es 3 + q * cell_dim es 4 → dim ≡ cell_dim es k
+        → ◌≡◌ {A = Cell} (record { kind = k; start = start; dim = dim }) (cell_at ks es i)
+    cell_is es {k} {q} {start} {dim} a e s d = rw (s, start_is es e, d, a) refl
 
     -- where there are none, or nothing else, they need no counting
     pub none_before : n.quads ≡ 0 → 0 ≡ kinds_to ks 4 i
@@ -188,11 +190,6 @@ record_right_lem r l = go (record_known r (record_of r l)) _ _
     go true b c = refl
     go false b c = refl
 
--- record p and its cells, as the code has them
-pub pair_is : (r : Run) (l : Plan) {e : WorkRecord} {t u : Cell} → e ≡ record_of r l → t ≡ cell_at l.kinds r.numbers.test e.test → u ≡ cell_at l.kinds r.numbers.trial e.trial
-    → ◌≡◌ {A = Pair} (record { item = e; test = t; trial = u }) (pair_at r l)
-pair_is r l q x y = rw (x, y, q) refl
-
 -- ---- 21, 20, 22 in order
 
 -- of two tests, the first passes
@@ -200,59 +197,74 @@ pub second_answers : {a b x : Bool} → a ≡ true → x ≡ b → x ≡ (a and 
 unfolding ◌and◌
 second_answers e g = rw e g
 
-and_fails : (a b : Bool) → a and b ≡ false → (a ≡ false) ⊎ (b ≡ false)
-unfolding ◌and◌
-and_fails true b e = inr e
-and_fails false b e = inl refl
+-- what 21 reads
+abbrev pub read_by21 : Run → Plan → Bool → List Bool
+read_by21 r l sized = ranges_right r ∷ counts_right r ∷ kinds_fit r l ∷ plan_right r l ∷ sized ∷ []
+
+-- by the three that are read where the first and the third pass
+pub all_read : (a b c d e : Bool) {x : Bool} → a ≡ true → c ≡ true → x ≡ (b and d and e) → x ≡ every (a ∷ b ∷ c ∷ d ∷ e ∷ [])
+unfolding every ◌and◌
+all_read a b c d e p q r = rw (p, q, r) (go b)
+  where
+    go : (b : Bool) → (b and d and e) ≡ (b and true and d and e)
+    go true = refl
+    go false = refl
+
+-- the number of the first of 21, 20, 22 that turns the call down, or 0
+abbrev pub state_number : Run → Plan → Bool → ℕ
+state_number r l sized = refusal (state_checks r l sized)
 
 module _ (r : Run) (l : Plan) (sized : Bool) where
-  -- what 21 reads
-  abbrev pub read_by21 : List Bool
-  read_by21 = ranges_right r ∷ counts_right r ∷ kinds_fit r l ∷ plan_right r l ∷ sized ∷ []
+  pub run_fails : every (read_by21 r l sized) ≡ false → 21 ≡ state_number r l sized
+  run_fails h = answers {cs = state_checks r l sized} (fails h)
 
-  pub run_fails : (k : ℕ) → get_or read_by21 k true ≡ false → Refused 21 ≡ state_checked r l sized
-  unfolding state_checked checked
-  run_fails k h = rw (← answers {cs = state_checks r l sized} (fails (every_fails read_by21 k h)))
-
-  pub plan_fails : (kinds_fit r l and plan_right r l) ≡ false → Refused 21 ≡ state_checked r l sized
-  plan_fails h = ⊎_elim (λ k. run_fails 2 k) (λ p. run_fails 3 p) (and_fails _ _ h)
-
-  module _ (all : Each read_by21) where
-    pub none_left : r.position ≡ pairs r.numbers → Refused 20 ≡ state_checked r l sized
-    unfolding state_checked checked pair_left
-    none_left h = rw (← answers {cs = state_checks r l sized} (every_of all then fails (ap not (eq-eqb _ _ h))))
+  module _ (all : every (read_by21 r l sized) ≡ true) where
+    pub none_left : r.position ≡ pairs r.numbers → 20 ≡ state_number r l sized
+    unfolding pair_left
+    none_left h = answers {cs = state_checks r l sized} (all then fails (ap not (eq-eqb _ _ h)))
 
     module _ (n : r.position ≡ pairs r.numbers → ⊥) where
-      pub record_fails : record_right r l ≡ false → Refused 22 ≡ state_checked r l sized
-      unfolding state_checked checked pair_left
-      record_fails h = rw (← answers {cs = state_checks r l sized} (every_of all then ap not (ne_eqb _ _ n) then fails h))
+      pub record_fails : record_right r l ≡ false → 22 ≡ state_number r l sized
+      unfolding pair_left
+      record_fails h = answers {cs = state_checks r l sized} (all then ap not (ne_eqb _ _ n) then fails h)
 
-      pub record_unknown : (e : WorkRecord) → e ≡ record_of r l → record_known r e ≡ false → Refused 22 ≡ state_checked r l sized
-      record_unknown e q h = record_fails (record_right_lem r l ∙ and_no_left _ _ (rw q at h))
+      pub none_fails : record_right r l ≡ true → 0 ≡ state_number r l sized
+      unfolding pair_left
+      none_fails h = answers {cs = state_checks r l sized} (all then ap not (ne_eqb _ _ n) then h then accepted)
 
-      pub dofs_fail : (e : Pair) → e ≡ pair_at r l → dofs_below r l.test_dofs l.trial_dofs e ≡ false → Refused 22 ≡ state_checked r l sized
-      dofs_fail e q h = record_fails (record_right_lem r l ∙ and_no_right _ _ (rw q at h))
+-- what 21 and 20 have found of record e, which is known
+pub record Next (r : Run) (l : Plan) (e : WorkRecord) : Type 0 where
+  pub matched : Matched r.numbers l.kinds
+  pub test : e.test < r.numbers.cells
+  pub trial : e.trial < r.numbers.cells
+  pub test_inside : Inside l.test_dofs (cell_at l.kinds r.numbers.test e.test)
+  pub trial_inside : Inside l.trial_dofs (cell_at l.kinds r.numbers.trial e.trial)
 
-      pub all_pass : (e : Pair) → e ≡ pair_at r l → record_known r e.item ≡ true → dofs_below r l.test_dofs l.trial_dofs e ≡ true → Passed e ≡ state_checked r l sized
-      unfolding state_checked checked pair_left
-      all_pass e q k h = rw (← answers {cs = state_checks r l sized} (every_of all then ap not (ne_eqb _ _ n) then record_right_lem r l ∙ and_both _ _ (rw q at k) (rw q at h) then accepted), q)
+module _ (r : Run) (l : Plan) (sized : Bool) (all : every (read_by21 r l sized) ≡ true) where
+  pub next_fits : (r.position ≡ pairs r.numbers → ⊥) → width * (r.position + 1) ≤ length l.work
+  next_fits = let run = every_at (read_by21 r l sized) all in record_fits r l (run 1) (run 3)
 
--- a refusal has its number; where there is none, record p is handed on
-pub state_refused : (r : Run) (l : Plan) (sized : Bool) {v : ℕ} → Refused v ≡ state_checked r l sized → (v ≡ refusal (state_checks r l sized)) × (v ≡ 0 → ⊥)
-unfolding state_checked checked
-state_refused r l sized {v} h = go (refusal (state_checks r l sized)) h
-  where
-    go : (n : ℕ) → Refused v ≡ checked n (pair_at r l) → (v ≡ n) × (v ≡ 0 → ⊥)
-    go zero h = let z : ◌≡◌ {A = ℕ} 0 1 = cc in absurd (omega arith)
-    go (suc n) h = let s : v ≡ suc n = cc in (s, λ z. omega arith)
+  module _ (e : WorkRecord) (k : record_known r e ≡ true) where
+    pub next : Next r l e
+    next =
+        let run = every_at (read_by21 r l sized) all in
+        let both = both_inside r l (run 3) e k in
+        let cells = known r e k in
+        record { matched = kinds_matched r l (run 0) (run 2); test = cells.test; trial = cells.trial; test_inside = both.0; trial_inside = both.1 }
 
-pub state_passed : (r : Run) (l : Plan) (sized : Bool) {e : Pair} → Passed e ≡ state_checked r l sized → (refusal (state_checks r l sized) ≡ 0) × (e ≡ pair_at r l)
-unfolding state_checked checked
-state_passed r l sized {e} h = go (refusal (state_checks r l sized)) h
-  where
-    go : (n : ℕ) → Passed e ≡ checked n (pair_at r l) → (n ≡ 0) × (e ≡ pair_at r l)
-    go zero h = (refl, cc)
-    go (suc n) h = let z : ◌≡◌ {A = ℕ} 0 1 = cc in absurd (omega arith)
+    -- 22 comes down to the DOFs of its cells
+    pub right_by : {t u : Cell} → e ≡ record_of r l → t ≡ cell_at l.kinds r.numbers.test e.test → u ≡ cell_at l.kinds r.numbers.trial e.trial
+        → {b : Bool} → (all_below (dofs_at l.test_dofs t) r.numbers.rows and all_below (dofs_at l.trial_dofs u) r.numbers.columns) ≡ b → record_right r l ≡ b
+    right_by q x y h = record_right_lem r l ∙ sym (second_answers (rw q at k) (sym (rw (x, y, q) at h)))
+
+-- 22: the record is not known
+pub unknown : (r : Run) (l : Plan) (e : WorkRecord) → e ≡ record_of r l → record_known r e ≡ false → record_right r l ≡ false
+unknown r l e q h = record_right_lem r l ∙ and_no_left _ _ (rw q at h)
+
+-- none of them does, and this is record p with its cells
+pub record Passed (r : Run) (l : Plan) (sized : Bool) (e : Pair) : Type 0 where
+  pub none : state_number r l sized ≡ 0
+  pub pair : e ≡ pair_at r l
 
 -- the DOFs of a cell of a side: within the list, few, and below the size
 pub record Dofs (dofs : List ℕ) (size : ℕ) (c : Cell) : Type 0 where
@@ -272,11 +284,10 @@ pub record Standing (r : Run) (test_dofs trial_dofs : List ℕ) (e : Pair) (size
   pub test_dim_holds : kind_dim r.numbers r.numbers.test e.test.kind ≡ e.test.dim
   pub trial_dim_holds : kind_dim r.numbers r.numbers.trial e.trial.kind ≡ e.trial.dim
 
-pub standing : (r : Run) (l : Plan) (sized : Bool) {e : Pair} → Passed e ≡ state_checked r l sized → Standing r l.test_dofs l.trial_dofs e sized
+pub standing : (r : Run) (l : Plan) (sized : Bool) {e : Pair} → Passed r l sized e → Standing r l.test_dofs l.trial_dofs e sized
 unfolding pair_left kinds_fit
 standing r l sized {e} h =
-    let c = state_passed r l sized h in
-    let passes = refusal_at (state_checks r l sized) c.0 refl in
+    let passes = refusal_at (state_checks r l sized) h.none refl in
     let run = every_at (read_by21 r l sized) (passes 0) in
     let p = counts r (run 1) in
     let m = matched r.numbers l.kinds (ranges r (run 0)).cells (run 2) in
@@ -284,7 +295,7 @@ standing r l sized {e} h =
     let right : (record_known r (record_of r l) and dofs_below r l.test_dofs l.trial_dofs (pair_at r l)) ≡ true = sym (record_right_lem r l) ∙ passes 2 in
     let k = and_left _ _ right in
     let both = both_inside r l (run 3) (record_of r l) k in
-    rw c.1
+    rw h.pair
     (record {
       ranges = ranges r (run 0);
       counts = p;
@@ -296,10 +307,10 @@ standing r l sized {e} h =
       trial_dim_holds = m.dims _ (known r _ k).trial _;
     })
 
--- a refusal is answered as such, and hands the run back
-pub reply_refused : (v n : ℕ) (r next : Run) (a : Answer) → v ≡ n → (v ≡ 0 → ⊥) → ◌≡◌ {A = Reply} (record { run = r; answer = refused v }) (reply n r next a)
-reply_refused v n r next a e h = rw (← e) (go v h)
+-- a refusal is answered by its number, and hands the run back
+pub reply_refused : (v : Refusal) {n : ℕ} → number_of v ≡ n → (r next : Run) (a : Answer) → ◌≡◌ {A = Reply} (record { run = r; answer = refused (number_of v) }) (reply n r next a)
+reply_refused v e r next a = rw (← e) (go (number_of v) (number_nonzero v))
   where
-    go : (v : ℕ) → (v ≡ 0 → ⊥) → ◌≡◌ {A = Reply} (record { run = r; answer = refused v }) (reply v r next a)
+    go : (n : ℕ) → (n ≡ 0 → ⊥) → ◌≡◌ {A = Reply} (record { run = r; answer = refused n }) (reply n r next a)
     go zero h = absurd (h refl)
-    go (suc v) h = refl
+    go (suc n) h = refl

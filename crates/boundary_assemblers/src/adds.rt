@@ -1,211 +1,114 @@
 // The adds: the local matrix of the pair at the run's position goes into the matrix.
-ghost use Rattle.std.specs.Prelude.{◌≡◌, ◌<◌};
-ghost use Rattle.lent_numbers.specs.Lent.{touching, distant};
+ghost use Rattle.std.specs.Prelude.{◌≡◌, ◌≤◌, true, replicate, OnOk, OnErr};
+ghost use Rattle.lists.specs.Refusals.{refusal};
+ghost use Rattle.refusals.specs.Numbers.{told};
+ghost use Rattle.numbers.specs.Floats.{0·0};
+ghost use Rattle.function.specs.Elements.{most_dim};
+ghost use Rattle.integrands.specs.Terms.{integrand_right};
+ghost use Rattle.integrands.specs.Columns.{Held};
+ghost use Rattle.lent_numbers.specs.Forms.{touching_of, distant_of};
 ghost use Rattle.scatter.specs.Adding.{add_local};
 ghost use Rattle.scatter.specs.Entries.{entry_at};
-ghost use Rattle.runs.specs.Runs.{matrix_right, advance, add_touching, touching_matrix, add_distant, distant_matrix, plan_of};
-ghost use Rattle.boundary_assemblers.specs.Forms.{run_of, added_of, dofs_at};
-ghost use Rattle.boundary_assemblers.specs.RunFacts.{most_pairs, Standing};
+ghost use Rattle.runs.specs.Runs.{matrix_right, add_touching, touching_matrix, add_distant, distant_matrix};
+ghost use Rattle.boundary_assemblers.specs.Forms.{run_of, plan_lent, added_of, dofs_at};
+ghost use Rattle.boundary_assemblers.specs.RunFacts.{Standing};
+ghost use Rattle.boundary_assemblers.specs.AddFacts.{added_by, matrix_by};
 
-use crate::calls::cell_dofs;
-use crate::{Added, Checked, Pair, Run};
-use cell_pair_assemblers::{distant_matrix, touching_matrix};
-use cell_pairs::{DISTANT, NO_PATTERN};
-use lent_numbers::{distant_refusal, touching_refusal};
+use crate::calls::local_matrix;
+use crate::lent::LentNumbers;
+use crate::{Pair, Run};
+use lent_numbers::{DistantNumbers, TouchingNumbers};
 use numbers::wide;
-use scatter::add_local;
+use plans::Plan;
+use refusals::Refusal;
 
 impl Run {
     // 21: the matrix has its length.
-    fn matrix_right(self, matrix: &[f64]) -> bool
-        ensures { result ≡ matrix_right (run_of self) matrix.now }
+    fn matrix_right(&self, matrix: &[f64]) -> bool
+        ensures { result ≡ matrix_right (run_of self.now) matrix.now }
     {
-        let n = self.numbers;
-        matrix.len() == wide(n.rows) * wide(n.columns)
-    }
-
-    // The run at the next record.
-    pub(crate) fn advanced(self) -> Run
-        requires { self.position < most_pairs }
-        ensures { run_of result ≡ advance (run_of self) }
-    {
-        let n = self.numbers;
-        Run {
-            numbers: n,
-            entries: self.entries,
-            position: self.position + 1,
-        }
+        matrix.len() == wide(self.numbers.rows) * wide(self.numbers.columns)
     }
 
     // Adds a local matrix at the DOFs of the two cells of record p.
-    fn add_matrix(
-        self,
-        test_dofs: &[u32],
-        trial_dofs: &[u32],
-        e: Pair,
-        entries: &[f64; 100],
-        matrix: &mut [f64],
-    )
-        requires { Standing (run_of self) test_dofs.now trial_dofs.now e (matrix_right (run_of self) matrix.old) }
-        ensures { matrix.new ≡ add_local (entry_at entries.now e.test.dim) self.numbers.rows
-            (dofs_at test_dofs.now e.test) (dofs_at trial_dofs.now e.trial) matrix.old }
+    fn add_matrix(&self, plan: Plan, pair: Pair, entries: &[f64; 100], matrix: &mut [f64])
+        requires { Standing (run_of self.now) plan.test_dofs.now plan.trial_dofs.now pair (matrix_right (run_of self.now) matrix.old) }
+        ensures { matrix.new ≡ add_local (entry_at entries.now pair.test.dim) self.now.numbers.rows
+            (dofs_at plan.entry.test_dofs.now pair.test) (dofs_at plan.entry.trial_dofs.now pair.trial) matrix.old }
     {
-        let n = self.numbers;
-        let rows = cell_dofs(test_dofs, e.test);
-        let columns = cell_dofs(trial_dofs, e.trial);
-        add_local(
+        local_matrix(plan, pair, entries).add_to(
             matrix,
-            wide(n.rows),
-            wide(n.columns),
-            rows,
-            columns,
-            entries,
+            wide(self.numbers.rows),
+            wide(self.numbers.columns),
         );
     }
 
-    // Adds the local matrix of a touching pair. Checks 21, 20, 22, 23, then 9 to 11.
-    pub fn add_touching(
-        self,
-        kinds: &[u8],
-        test_dofs: &[u32],
-        trial_dofs: &[u32],
-        work: &[u32],
-        points: usize,
-        weights: &[f64],
-        test_table: &[f64],
-        trial_table: &[f64],
-        kernel: &[f64],
-        test_geometry: &[f64],
-        trial_geometry: &[f64],
-        matrix: &mut [f64],
-    ) -> Added
-        ensures result_value { added_of result ≡ add_touching (run_of self) (plan_of kinds.now test_dofs.now trial_dofs.now work.now) matrix.old
-            (touching points weights.now test_table.now trial_table.now kernel.now test_geometry.now trial_geometry.now) }
-        ensures matrix_after { matrix.new ≡ touching_matrix (run_of self) (plan_of kinds.now test_dofs.now trial_dofs.now work.now) matrix.old
-            (touching points weights.now test_table.now trial_table.now kernel.now test_geometry.now trial_geometry.now) }
+    // The local matrix of record p, from what is lent and zeros. Checks 9 to 11.
+    pub(crate) fn write_local<L: LentNumbers>(
+        &self,
+        pair: Pair,
+        lent: L,
+        entries: &mut [f64; 100],
+    ) -> Result<(), Refusal>
+        requires right { integrand_right self.now.numbers.integrand ≡ true }
+        requires few { (pair.test.dim ≤ most_dim) × (pair.trial.dim ≤ most_dim) }
+        requires zeros { entries.old ≡ replicate 100 0·0 }
+        ensures refusal { told result ≡ refusal (L.checks self.now.numbers.integrand pair.test.dim pair.trial.dim lent) }
+        ensures held { OnOk result (Held pair.test.dim pair.trial.dim entries.new (L.entry self.now.numbers.integrand lent)) }
     {
-        let sized = self.matrix_right(matrix);
-        match self.state_checked(kinds, test_dofs, trial_dofs, work, sized) {
-            Checked::Refused(v) => Added::Refused(self, v),
-            Checked::Passed(e) => {
-                let item = e.item;
-                if !((item.pattern < NO_PATTERN) & !self.entries) {
-                    return Added::Refused(self, 23);
-                }
-                let n = self.numbers;
-                let f = n.integrand;
-                let test = e.test;
-                let trial = e.trial;
-                let test_dim = test.dim;
-                let trial_dim = trial.dim;
-                let v = touching_refusal(
-                    f,
-                    test_dim,
-                    trial_dim,
-                    points,
-                    weights,
-                    test_table,
-                    trial_table,
-                    kernel,
-                    test_geometry,
-                    trial_geometry,
-                );
-                if v != 0 {
-                    return Added::Refused(self, v);
-                }
-                let mut entries = [0.0; 100];
-                touching_matrix(
-                    &mut entries,
-                    f,
-                    test_dim,
-                    trial_dim,
-                    points,
-                    weights,
-                    test_table,
-                    trial_table,
-                    kernel,
-                    test_geometry,
-                    trial_geometry,
-                );
-                self.add_matrix(test_dofs, trial_dofs, e, &entries, matrix);
-                Added::Accepted(self.advanced())
-            }
-        }
+        let integrand = self.numbers.integrand;
+        lent.checked(integrand, pair.test.dim, pair.trial.dim)?;
+        lent.write_matrix(integrand, pair.test.dim, pair.trial.dim, entries);
+        Ok(())
     }
 
-    // Adds the local matrix of a distant pair. Checks 21, 20, 22, 23, then 9 to 11.
-    pub fn add_distant(
-        self,
-        kinds: &[u8],
-        test_dofs: &[u32],
-        trial_dofs: &[u32],
-        work: &[u32],
-        test_points: usize,
-        trial_points: usize,
-        test_weights: &[f64],
-        trial_weights: &[f64],
-        test_table: &[f64],
-        trial_table: &[f64],
-        kernel: &[f64],
-        test_geometry: &[f64],
-        trial_geometry: &[f64],
+    // Adds the local matrix of a pair of one sort. Checks 21, 20, 22, 23, then 9 to 11.
+    fn add<L: LentNumbers>(
+        &mut self,
+        plan: Plan,
+        lent: L,
         matrix: &mut [f64],
-    ) -> Added
-        ensures result_value { added_of result ≡ add_distant (run_of self) (plan_of kinds.now test_dofs.now trial_dofs.now work.now) matrix.old
-            (distant test_points trial_points test_weights.now trial_weights.now test_table.now trial_table.now kernel.now test_geometry.now trial_geometry.now) }
-        ensures matrix_after { matrix.new ≡ distant_matrix (run_of self) (plan_of kinds.now test_dofs.now trial_dofs.now work.now) matrix.old
-            (distant test_points trial_points test_weights.now trial_weights.now test_table.now trial_table.now kernel.now test_geometry.now trial_geometry.now) }
+    ) -> Result<(), Refusal>
+        ensures result_value { added_of self.new result ≡ added_by L.is_taken (λ m n. L.checks self.old.numbers.integrand m n lent) (run_of self.old) (plan_lent plan.entry) matrix.old }
+        ensures matrix_after { matrix.new ≡ matrix_by L.is_taken (λ m n. L.checks self.old.numbers.integrand m n lent) (L.entry self.old.numbers.integrand lent) (run_of self.old) (plan_lent plan.entry) matrix.old }
+        ensures refused { OnErr result ((self.new ≡ self.old) × (matrix.new ≡ matrix.old)) }
     {
-        let sized = self.matrix_right(matrix);
-        match self.state_checked(kinds, test_dofs, trial_dofs, work, sized) {
-            Checked::Refused(v) => Added::Refused(self, v),
-            Checked::Passed(e) => {
-                let item = e.item;
-                if !((item.pattern == DISTANT) & !self.entries) {
-                    return Added::Refused(self, 23);
-                }
-                let n = self.numbers;
-                let f = n.integrand;
-                let test = e.test;
-                let trial = e.trial;
-                let test_dim = test.dim;
-                let trial_dim = trial.dim;
-                let v = distant_refusal(
-                    f,
-                    test_dim,
-                    trial_dim,
-                    test_points,
-                    trial_points,
-                    test_weights,
-                    trial_weights,
-                    test_table,
-                    trial_table,
-                    kernel,
-                    test_geometry,
-                    trial_geometry,
-                );
-                if v != 0 {
-                    return Added::Refused(self, v);
-                }
-                let mut entries = [0.0; 100];
-                distant_matrix(
-                    &mut entries,
-                    f,
-                    test_dim,
-                    trial_dim,
-                    test_points,
-                    trial_points,
-                    test_weights,
-                    trial_weights,
-                    test_table,
-                    trial_table,
-                    kernel,
-                    test_geometry,
-                    trial_geometry,
-                );
-                self.add_matrix(test_dofs, trial_dofs, e, &entries, matrix);
-                Added::Accepted(self.advanced())
-            }
+        let pair = self.state_checked(plan, self.matrix_right(matrix))?;
+        if !(L::is_taken(pair.item.pattern) & !self.entries) {
+            return Err(Refusal::Kind);
         }
+        let mut entries = [0.0; 100];
+        self.write_local(pair, lent, &mut entries)?;
+        self.add_matrix(plan, pair, &entries, matrix);
+        self.position += 1;
+        Ok(())
+    }
+
+    // Adds the local matrix of a touching pair. Checks 21, 20, 22, 23, then 9 to 11. A refused call leaves the run and the matrix as they were.
+    pub fn add_touching(
+        &mut self,
+        plan: Plan,
+        lent: TouchingNumbers,
+        matrix: &mut [f64],
+    ) -> Result<(), Refusal>
+        ensures result_value { added_of self.new result ≡ add_touching (run_of self.old) (plan_lent plan.entry) matrix.old (touching_of lent.entry) }
+        ensures matrix_after { matrix.new ≡ touching_matrix (run_of self.old) (plan_lent plan.entry) matrix.old (touching_of lent.entry) }
+        ensures refused { OnErr result ((self.new ≡ self.old) × (matrix.new ≡ matrix.old)) }
+    {
+        self.add(plan, lent, matrix)
+    }
+
+    // Adds the local matrix of a distant pair. Checks 21, 20, 22, 23, then 9 to 11. A refused call leaves the run and the matrix as they were.
+    pub fn add_distant(
+        &mut self,
+        plan: Plan,
+        lent: DistantNumbers,
+        matrix: &mut [f64],
+    ) -> Result<(), Refusal>
+        ensures result_value { added_of self.new result ≡ add_distant (run_of self.old) (plan_lent plan.entry) matrix.old (distant_of lent.entry) }
+        ensures matrix_after { matrix.new ≡ distant_matrix (run_of self.old) (plan_lent plan.entry) matrix.old (distant_of lent.entry) }
+        ensures refused { OnErr result ((self.new ≡ self.old) × (matrix.new ≡ matrix.old)) }
+    {
+        self.add(plan, lent, matrix)
     }
 }

@@ -1,21 +1,25 @@
 // The checks that every call of a run makes, and look.
-ghost use Rattle.std.specs.Prelude.{◌≡◌, true, ◌+◌, ◌*◌, ◌≤◌, ◌<◌, length};
-ghost use Rattle.lists.specs.Bool.{◌and◌};
+ghost use Rattle.std.specs.Prelude.{◌≡◌, ◌+◌, ◌*◌, ◌≤◌, ◌<◌, length, IfOk};
+ghost use Rattle.lists.specs.Bool.{every};
+ghost use Rattle.lists.specs.Refusals.{refusal};
+ghost use Rattle.refusals.specs.Numbers.{told};
 ghost use Rattle.numbers.specs.Ranges.{all_below};
 ghost use Rattle.grid.specs.Mesh.{most_cells};
 ghost use Rattle.grid.specs.KindsFacts.{kinds_to};
 ghost use Rattle.function.specs.Elements.{cell_dim};
-ghost use Rattle.runs.specs.Runs.{begin, begin_entries, ranges_right, counts_right, kinds_fit, plan_right, record_known, look, plan_of};
-ghost use Rattle.boundary_assemblers.specs.Forms.{run_of, looked_of, state_checked, cell_behind, dofs_at};
-ghost use Rattle.boundary_assemblers.specs.RunFacts.{Matched, Inside};
+ghost use Rattle.runs.specs.Runs.{pairs, begin, begin_entries, ranges_right, counts_right, kinds_fit, plan_right, record_known, state_checks, look};
+ghost use Rattle.boundary_assemblers.specs.Forms.{run_of, plan_lent, looked_of, pair_at, cell_at, dofs_at};
+ghost use Rattle.boundary_assemblers.specs.RunFacts.{read_by21, Matched, Inside};
 
-use crate::{Cell, Checked, Looked, Pair, Run};
+use crate::{Cell, Pair, Run};
 use cell_pairs::{DISTANT, NO_PATTERN, WIDTH, WorkRecord, record_at};
 use function::{Elements, dims_right};
 use grid::{MOST_CELLS, MOST_EDGES, MOST_VERTICES, count_kind, kinds_match};
 use integrands::integrand_right;
 use numbers::{all_below, wide};
-use plans::PlanNumbers;
+use plans::{Plan, PlanNumbers};
+use refusals::Refusal;
+use scatter::LocalMatrix;
 
 // How many local DOFs so many triangles and quads have together. Of elements that hold any u32 the sum fits.
 fn dofs_on(triangles: u32, quads: u32, elements: Elements) -> usize
@@ -25,26 +29,30 @@ fn dofs_on(triangles: u32, quads: u32, elements: Elements) -> usize
     wide(triangles) * elements.dim(3) + wide(quads) * elements.dim(4)
 }
 
-// A cell of a kind on a side with these elements, where so many of the cells before it are quads.
-fn cell_at(elements: Elements, kind: u8, cell: u32, quads: u32) -> Cell
-    requires { (quads ≤ cell) × (cell ≤ most_cells) }
-    ensures { result ≡ cell_behind elements kind cell quads }
-{
-    Cell {
-        kind: kind,
-        start: dofs_on(cell - quads, quads, elements),
-        dim: elements.dim(kind),
-    }
-}
-
 // The DOFs of a cell in the DOF list of its side.
-pub(crate) fn cell_dofs(dofs: &[u32], cell: Cell) -> &[u32]
+fn cell_dofs(dofs: &[u32], cell: Cell) -> &[u32]
     requires { cell.start + cell.dim ≤ length dofs.now }
     ensures { result.now ≡ dofs_at dofs.now cell }
 {
-    let start = cell.start;
-    let end = start + cell.dim;
-    &dofs[start..end]
+    &dofs[cell.start..cell.start + cell.dim]
+}
+
+// The local matrix of record p, at the DOFs of its two cells.
+pub(crate) fn local_matrix<'a>(
+    plan: Plan<'a>,
+    pair: Pair,
+    entries: &'a [f64; 100],
+) -> LocalMatrix<'a>
+    requires { Inside plan.test_dofs.now pair.test × Inside plan.trial_dofs.now pair.trial }
+    ensures test { result.test_dofs.now ≡ dofs_at plan.entry.test_dofs.now pair.test }
+    ensures trial { result.trial_dofs.now ≡ dofs_at plan.entry.trial_dofs.now pair.trial }
+    ensures entries { result.entries.now ≡ entries.now }
+{
+    LocalMatrix {
+        test_dofs: cell_dofs(plan.test_dofs, pair.test),
+        trial_dofs: cell_dofs(plan.trial_dofs, pair.trial),
+        entries,
+    }
 }
 
 // 22: each DOF of a cell is below the size of its side.
@@ -79,64 +87,81 @@ impl Run {
     }
 
     // 21: the run's numbers are in their ranges.
-    pub(crate) fn ranges_right(self) -> bool
-        ensures { result ≡ ranges_right (run_of self) }
+    fn ranges_right(&self) -> bool
+        ensures { result ≡ ranges_right (run_of self.now) }
     {
         let n = self.numbers;
-        let test = n.test;
-        let trial = n.trial;
-        let f = n.integrand;
         ((1 <= n.cells) & (n.cells <= MOST_CELLS as u32))
             & ((3 <= n.vertices) & (n.vertices <= MOST_VERTICES as u32))
             & ((3 <= n.edges) & (n.edges <= MOST_EDGES as u32))
-            & dims_right(n.triangles, n.quads, test, trial)
-            & integrand_right(f)
+            & dims_right(n.triangles, n.quads, n.test, n.trial)
+            & integrand_right(n.integrand)
+    }
+
+    // C·C.
+    fn pair_count(&self) -> usize
+        ensures { result ≡ pairs self.now.numbers }
+    {
+        wide(self.numbers.cells) * wide(self.numbers.cells)
     }
 
     // 21: the pairs per two kinds add up to S, S and N to all pairs, and p is no more than these. The sums are made as usize, so that they fit of any u32.
-    pub(crate) fn counts_right(self) -> bool
+    fn counts_right(self) -> bool
         ensures { result ≡ counts_right (run_of self) }
     {
         let n = self.numbers;
-        let k = n.pairs;
-        let cells = wide(n.cells);
-        let pairs = cells * cells;
+        let kinds = n.pairs;
         let touching = wide(n.touching);
-        (wide(k.triangle_triangle)
-            + wide(k.triangle_quad)
-            + wide(k.quad_triangle)
-            + wide(k.quad_quad)
+        (wide(kinds.triangle_triangle)
+            + wide(kinds.triangle_quad)
+            + wide(kinds.quad_triangle)
+            + wide(kinds.quad_quad)
             == touching)
-            & (touching + wide(n.distant) == pairs)
-            & (wide(self.position) <= pairs)
+            & (touching + wide(n.distant) == self.pair_count())
+            & (wide(self.position) <= self.pair_count())
             & (!self.entries | (n.distant <= self.position))
     }
 
-    // 21: the kind list is that of the cells, and the plan has its length.
-    fn plan_right(self, kinds: &[u8], test_dofs: &[u32], trial_dofs: &[u32], work: &[u32]) -> bool
-        requires { ranges_right (run_of self) ≡ true }
-        ensures { result ≡ (kinds_fit (run_of self) (plan_of kinds.now test_dofs.now trial_dofs.now work.now)
-            and plan_right (run_of self) (plan_of kinds.now test_dofs.now trial_dofs.now work.now)) }
+    // 21: the kind list is that of the cells.
+    fn kinds_fit(&self, plan: Plan) -> bool
+        requires { self.now.numbers.cells ≤ most_cells }
+        ensures { result ≡ kinds_fit (run_of self.now) (plan_lent plan.entry) }
     {
         let n = self.numbers;
-        if !kinds_match(n.cells, n.triangles, n.quads, kinds) {
-            return false;
-        }
-        let test = n.test;
-        let trial = n.trial;
-        let test_places = dofs_on(n.triangles, n.quads, test);
-        let trial_places = dofs_on(n.triangles, n.quads, trial);
-        let cells = wide(n.cells);
+        kinds_match(n.cells, n.triangles, n.quads, plan.kinds)
+    }
+
+    // 21: of a kind list that is that of the cells, the plan has its length.
+    fn plan_right(&self, plan: Plan) -> bool
+        requires { Matched self.now.numbers plan.kinds.now }
+        ensures { result ≡ plan_right (run_of self.now) (plan_lent plan.entry) }
+    {
+        let n = self.numbers;
+        let test_places = dofs_on(n.triangles, n.quads, n.test);
+        let trial_places = dofs_on(n.triangles, n.quads, n.trial);
         (wide(n.rows) <= test_places)
             & (wide(n.columns) <= trial_places)
-            & (test_dofs.len() == test_places)
-            & (trial_dofs.len() == trial_places)
-            & (work.len() == WIDTH * (cells * cells))
+            & (plan.test_dofs.len() == test_places)
+            & (plan.trial_dofs.len() == trial_places)
+            & (plan.work.len() == WIDTH * self.pair_count())
+    }
+
+    // 21, of all that it reads. `sized`: what is lent beside the plan has its length.
+    fn run_right(&self, plan: Plan, sized: bool) -> bool
+        ensures { result ≡ every (read_by21 (run_of self.now) (plan_lent plan.entry) sized) }
+    {
+        if !self.ranges_right() {
+            return false;
+        }
+        if !self.kinds_fit(plan) {
+            return false;
+        }
+        self.counts_right() & self.plan_right(plan) & sized
     }
 
     // How many of the cells before a cell are quads. Cells of one kind are not counted.
-    fn quads_before(self, kinds: &[u8], cell: u32) -> u32
-        requires { Matched self.numbers kinds.now × (cell < self.numbers.cells) }
+    fn quads_before(&self, kinds: &[u8], cell: u32) -> u32
+        requires { Matched self.now.numbers kinds.now × (cell < self.now.numbers.cells) }
         ensures { result ≡ kinds_to kinds.now 4 cell }
     {
         let n = self.numbers;
@@ -150,76 +175,64 @@ impl Run {
     }
 
     // 22: a record has a pattern of the list, and cells below C.
-    fn record_known(self, e: WorkRecord) -> bool
-        ensures { result ≡ record_known (run_of self) e }
+    fn record_known(&self, item: WorkRecord) -> bool
+        ensures { result ≡ record_known (run_of self.now) item }
     {
-        let n = self.numbers;
-        ((e.pattern < NO_PATTERN) | (e.pattern == DISTANT))
-            & (e.test < n.cells)
-            & (e.trial < n.cells)
+        let cells = self.numbers.cells;
+        ((item.pattern < NO_PATTERN) | (item.pattern == DISTANT))
+            & (item.test < cells)
+            & (item.trial < cells)
+    }
+
+    // A cell of a side with these elements.
+    fn cell(&self, kinds: &[u8], elements: Elements, cell: u32) -> Cell
+        requires { Matched self.now.numbers kinds.now × (cell < self.now.numbers.cells) }
+        ensures { result ≡ cell_at kinds.now elements cell }
+    {
+        let quads = self.quads_before(kinds, cell);
+        let kind = kinds[wide(cell)];
+        Cell {
+            kind: kind,
+            start: dofs_on(cell - quads, quads, elements),
+            dim: elements.dim(kind),
+        }
     }
 
     // 21, 20, 22, which every call checks, then record p and its cells. `sized`: what is lent beside the plan has its length.
-    pub(crate) fn state_checked(
-        self,
-        kinds: &[u8],
-        test_dofs: &[u32],
-        trial_dofs: &[u32],
-        work: &[u32],
-        sized: bool,
-    ) -> Checked
-        ensures { result ≡ state_checked (run_of self) (plan_of kinds.now test_dofs.now trial_dofs.now work.now) sized }
+    pub(crate) fn state_checked(&self, plan: Plan, sized: bool) -> Result<Pair, Refusal>
+        ensures refusal { told result ≡ refusal (state_checks (run_of self.now) (plan_lent plan.entry) sized) }
+        ensures pair { IfOk result (λ e. e ≡ pair_at (run_of self.now) (plan_lent plan.entry)) }
     {
-        if !self.ranges_right() {
-            return Checked::Refused(21);
+        if !self.run_right(plan, sized) {
+            return Err(Refusal::Run);
         }
-        if !self.counts_right() {
-            return Checked::Refused(21);
+        if wide(self.position) == self.pair_count() {
+            return Err(Refusal::NoRecordLeft);
         }
-        if !self.plan_right(kinds, test_dofs, trial_dofs, work) {
-            return Checked::Refused(21);
-        }
-        if !sized {
-            return Checked::Refused(21);
+        let record = record_at(plan.work, wide(self.position));
+        if !self.record_known(record) {
+            return Err(Refusal::Record);
         }
         let n = self.numbers;
-        let cells = wide(n.cells);
-        let p = wide(self.position);
-        if p == cells * cells {
-            return Checked::Refused(20);
+        let test = self.cell(plan.kinds, n.test, record.test);
+        let trial = self.cell(plan.kinds, n.trial, record.trial);
+        if !(dofs_below(plan.test_dofs, test, n.rows)
+            & dofs_below(plan.trial_dofs, trial, n.columns))
+        {
+            return Err(Refusal::Record);
         }
-        let record = record_at(work, p);
-        if !self.record_known(record) {
-            return Checked::Refused(22);
-        }
-        let i = record.test;
-        let j = record.trial;
-        let test_quads = self.quads_before(kinds, i);
-        let trial_quads = self.quads_before(kinds, j);
-        let e = Pair {
+        Ok(Pair {
             item: record,
-            test: cell_at(n.test, kinds[wide(i)], i, test_quads),
-            trial: cell_at(n.trial, kinds[wide(j)], j, trial_quads),
-        };
-        if !dofs_below(test_dofs, e.test, n.rows) {
-            return Checked::Refused(22);
-        }
-        if !dofs_below(trial_dofs, e.trial, n.columns) {
-            return Checked::Refused(22);
-        }
-        Checked::Passed(e)
+            test,
+            trial,
+        })
     }
 
     // Answers record p.
-    pub fn look(self, kinds: &[u8], test_dofs: &[u32], trial_dofs: &[u32], work: &[u32]) -> Looked
-        ensures { looked_of result ≡ look (run_of self) (plan_of kinds.now test_dofs.now trial_dofs.now work.now) }
+    pub fn look(&self, plan: Plan) -> Result<WorkRecord, Refusal>
+        ensures { looked_of self.now result ≡ look (run_of self.now) (plan_lent plan.entry) }
     {
-        match self.state_checked(kinds, test_dofs, trial_dofs, work, true) {
-            Checked::Refused(v) => Looked::Refused(self, v),
-            Checked::Passed(e) => {
-                let item = e.item;
-                Looked::Found(self, item)
-            }
-        }
+        let pair = self.state_checked(plan, true)?;
+        Ok(pair.item)
     }
 }

@@ -1,30 +1,23 @@
 // The entries call: the local matrix of a touching pair goes into three lists.
-ghost use Rattle.std.specs.Prelude.{◌≡◌, ◌⊎◌, ◌*◌, ◌<◌, min};
+ghost use Rattle.std.specs.Prelude.{◌≡◌, ◌⊎◌, ◌*◌, ◌<◌, OnErr};
 ghost use Rattle.lists.specs.Bool.{◌and◌};
 ghost use Rattle.function.specs.Elements.{dims_right};
-ghost use Rattle.lent_numbers.specs.Lent.{touching};
+ghost use Rattle.lent_numbers.specs.Forms.{touching_of};
 ghost use Rattle.scatter.specs.Entries.{entry_at};
-ghost use Rattle.runs.specs.Runs.{pairs, kind_cells, kind_dim, entries_on, entries_to, entries_right, add_entries, entries_written, plan_of, entry_lists};
-ghost use Rattle.boundary_assemblers.specs.Forms.{run_of, added_of, dofs_at};
+ghost use Rattle.runs.specs.Runs.{pairs, kind_cells, kind_dim, entries_on, entries_to, entries_right, add_entries, entries_written};
+ghost use Rattle.boundary_assemblers.specs.Forms.{run_of, plan_lent, entries_lent, SameLists, added_of, dofs_at};
 ghost use Rattle.boundary_assemblers.specs.RunFacts.{Dims, Counts, Standing};
 ghost use Rattle.boundary_assemblers.specs.EntryFacts.{put_at, Fit, written_at};
 
-use crate::calls::cell_dofs;
-use crate::{Added, Cell, Checked, Pair, Run};
-use cell_pair_assemblers::touching_matrix;
-use cell_pairs::NO_PATTERN;
+use crate::calls::local_matrix;
+use crate::lent::LentNumbers;
+use crate::{Cell, Pair, Run};
 use function::{Elements, dims_right};
-use lent_numbers::touching_refusal;
+use lent_numbers::TouchingNumbers;
 use numbers::wide;
-use plans::PlanNumbers;
-use scatter::{write_columns, write_rows, write_values};
-
-// The smaller of two numbers.
-fn least(x: u32, y: u32) -> u32
-    ensures { result ≡ min x y }
-{
-    if x < y { x } else { y }
-}
+use plans::{Plan, PlanNumbers};
+use refusals::Refusal;
+use scatter::EntryLists;
 
 // The cells of a kind.
 fn kind_cells(n: PlanNumbers, kind: u8) -> u32
@@ -38,39 +31,33 @@ fn kind_dim(n: PlanNumbers, elements: Elements, kind: u8) -> usize
     ensures { result ≡ kind_dim n elements kind }
 {
     let count = kind_cells(n, kind);
-    if count == 0 {
-        return 0;
-    }
-    elements.dim(kind)
+    if count == 0 { 0 } else { elements.dim(kind) }
 }
 
 impl Run {
     // The entries of so many records of two kinds.
-    fn entries_of(self, records: u32, test_kind: u8, trial_kind: u8) -> usize
-        requires dims { Dims self.numbers }
+    fn entries_of(&self, records: u32, test_kind: u8, trial_kind: u8) -> usize
+        requires dims { Dims self.now.numbers }
         requires fact { ((test_kind ≡ 3) ⊎ (test_kind ≡ 4)) × ((trial_kind ≡ 3) ⊎ (trial_kind ≡ 4)) }
-        ensures { result ≡ records * entries_on self.numbers test_kind trial_kind }
+        ensures { result ≡ records * entries_on self.now.numbers test_kind trial_kind }
     {
         let n = self.numbers;
-        let test_dim = kind_dim(n, n.test, test_kind);
-        let trial_dim = kind_dim(n, n.trial, trial_kind);
-        wide(records) * (test_dim * trial_dim)
+        wide(records) * (kind_dim(n, n.test, test_kind) * kind_dim(n, n.trial, trial_kind))
     }
 
     // The entries of the first q touching records, block after block.
-    fn entries_to(self, q: u32) -> usize
-        requires { Dims self.numbers }
-        ensures { result ≡ entries_to self.numbers q }
+    fn entries_to(&self, q: u32) -> usize
+        requires { Dims self.now.numbers }
+        ensures { result ≡ entries_to self.now.numbers q }
     {
-        let n = self.numbers;
-        let k = n.pairs;
-        let a = least(q, k.triangle_triangle);
+        let k = self.numbers.pairs;
+        let a = q.min(k.triangle_triangle);
         let q = q - a;
-        let b = least(q, k.triangle_quad);
+        let b = q.min(k.triangle_quad);
         let q = q - b;
-        let c = least(q, k.quad_triangle);
+        let c = q.min(k.quad_triangle);
         let q = q - c;
-        let d = least(q, k.quad_quad);
+        let d = q.min(k.quad_quad);
         self.entries_of(a, 3, 3)
             + self.entries_of(b, 3, 4)
             + self.entries_of(c, 4, 3)
@@ -78,21 +65,21 @@ impl Run {
     }
 
     // 21: the elements are right, and the entry lists have their length.
-    fn entries_right(self, rows: &[u32], columns: &[u32], values: &[f64]) -> bool
-        ensures { result ≡ (dims_right self.numbers.triangles self.numbers.quads self.numbers.test self.numbers.trial and entries_right (run_of self) (entry_lists rows.now columns.now values.now)) }
+    fn entries_right(&self, lists: &EntryLists) -> bool
+        ensures { result ≡ (dims_right self.now.numbers.triangles self.now.numbers.quads self.now.numbers.test self.now.numbers.trial and entries_right (run_of self.now) (entries_lent lists.now)) }
     {
         let n = self.numbers;
         if !dims_right(n.triangles, n.quads, n.test, n.trial) {
             return false;
         }
         let count = self.entries_to(n.touching);
-        (rows.len() == count) & (columns.len() == count) & (values.len() == count)
+        (lists.rows.len() == count) & (lists.columns.len() == count) & (lists.values.len() == count)
     }
 
     // 22 of the entries call: the pairs per two kinds put no cells of other kinds at p.
-    fn kinds_put(self, test: Cell, trial: Cell) -> bool
-        requires { Counts (run_of self) × (self.position < pairs self.numbers) }
-        ensures { result ≡ put_at (run_of self) test.kind trial.kind }
+    fn kinds_put(&self, test: Cell, trial: Cell) -> bool
+        requires { Counts (run_of self.now) × (self.now.position < pairs self.now.numbers) }
+        ensures { result ≡ put_at (run_of self.now) test.kind trial.kind }
     {
         let n = self.numbers;
         let k = n.pairs;
@@ -115,108 +102,42 @@ impl Run {
     }
 
     // Writes a local matrix as the entries of record p, behind those of the touching records before it.
-    fn write_entries(
-        self,
-        test_dofs: &[u32],
-        trial_dofs: &[u32],
-        e: Pair,
-        entries: &[f64; 100],
-        rows: &mut [u32],
-        columns: &mut [u32],
-        values: &mut [f64],
-    )
-        requires standing { Standing (run_of self) test_dofs.now trial_dofs.now e (entries_right (run_of self) (entry_lists rows.old columns.old values.old)) }
-        requires fit { Fit (run_of self) e (entry_lists rows.old columns.old values.old) }
-        ensures { entry_lists rows.new columns.new values.new
-            ≡ written_at (run_of self) e (dofs_at test_dofs.now e.test) (dofs_at trial_dofs.now e.trial)
-            (entry_at entries.now e.test.dim) (entry_lists rows.old columns.old values.old) }
+    fn write_entries(&self, plan: Plan, pair: Pair, entries: &[f64; 100], lists: &mut EntryLists)
+        requires standing { Standing (run_of self.now) plan.test_dofs.now plan.trial_dofs.now pair (entries_right (run_of self.now) (entries_lent lists.old)) }
+        requires fit { Fit (run_of self.now) pair (entries_lent lists.old) }
+        ensures written { entries_lent lists.new
+            ≡ written_at (run_of self.now) pair (dofs_at plan.entry.test_dofs.now pair.test) (dofs_at plan.entry.trial_dofs.now pair.trial)
+            (entry_at entries.now pair.test.dim) (entries_lent lists.old) }
+        ensures same { SameLists lists.old lists.new }
     {
-        let test = e.test;
-        let trial = e.trial;
-        let row_dofs = cell_dofs(test_dofs, test);
-        let column_dofs = cell_dofs(trial_dofs, trial);
-        let n = self.numbers;
-        let at = self.entries_to(self.position - n.distant);
-        write_rows(rows, at, row_dofs, column_dofs);
-        write_columns(columns, at, row_dofs, column_dofs);
-        write_values(values, at, test.dim, trial.dim, entries);
+        let at = self.entries_to(self.position - self.numbers.distant);
+        lists.write(at, local_matrix(plan, pair, entries));
     }
 
-    // Writes row, column and value of each entry of a touching pair into three lists. Checks 21, 20, 22, 22 by the kinds, 23, then 9 to 11.
+    // Writes row, column and value of each entry of a touching pair into three lists. Checks 21, 20, 22, 22 by the kinds, 23, then 9 to 11. A refused call leaves
+    // the run and the lists as they were.
     pub fn add_entries(
-        self,
-        kinds: &[u8],
-        test_dofs: &[u32],
-        trial_dofs: &[u32],
-        work: &[u32],
-        points: usize,
-        weights: &[f64],
-        test_table: &[f64],
-        trial_table: &[f64],
-        kernel: &[f64],
-        test_geometry: &[f64],
-        trial_geometry: &[f64],
-        rows: &mut [u32],
-        columns: &mut [u32],
-        values: &mut [f64],
-    ) -> Added
-        ensures result_value { added_of result ≡ add_entries (run_of self) (plan_of kinds.now test_dofs.now trial_dofs.now work.now)
-            (entry_lists rows.old columns.old values.old)
-            (touching points weights.now test_table.now trial_table.now kernel.now test_geometry.now trial_geometry.now) }
-        ensures values_after { entry_lists rows.new columns.new values.new
-            ≡ entries_written (run_of self) (plan_of kinds.now test_dofs.now trial_dofs.now work.now)
-            (entry_lists rows.old columns.old values.old)
-            (touching points weights.now test_table.now trial_table.now kernel.now test_geometry.now trial_geometry.now) }
+        &mut self,
+        plan: Plan,
+        lent: TouchingNumbers,
+        lists: &mut EntryLists,
+    ) -> Result<(), Refusal>
+        ensures result_value { added_of self.new result ≡ add_entries (run_of self.old) (plan_lent plan.entry) (entries_lent lists.old) (touching_of lent.entry) }
+        ensures values_after { entries_lent lists.new ≡ entries_written (run_of self.old) (plan_lent plan.entry) (entries_lent lists.old) (touching_of lent.entry) }
+        ensures refused { OnErr result ((self.new ≡ self.old) × (entries_lent lists.new ≡ entries_lent lists.old)) }
+        ensures same { SameLists lists.old lists.new }
     {
-        let sized = self.entries_right(rows, columns, values);
-        match self.state_checked(kinds, test_dofs, trial_dofs, work, sized) {
-            Checked::Refused(v) => Added::Refused(self, v),
-            Checked::Passed(e) => {
-                if !self.kinds_put(e.test, e.trial) {
-                    return Added::Refused(self, 22);
-                }
-                let item = e.item;
-                if !((item.pattern < NO_PATTERN) & self.entries) {
-                    return Added::Refused(self, 23);
-                }
-                let n = self.numbers;
-                let f = n.integrand;
-                let test = e.test;
-                let trial = e.trial;
-                let test_dim = test.dim;
-                let trial_dim = trial.dim;
-                let v = touching_refusal(
-                    f,
-                    test_dim,
-                    trial_dim,
-                    points,
-                    weights,
-                    test_table,
-                    trial_table,
-                    kernel,
-                    test_geometry,
-                    trial_geometry,
-                );
-                if v != 0 {
-                    return Added::Refused(self, v);
-                }
-                let mut entries = [0.0; 100];
-                touching_matrix(
-                    &mut entries,
-                    f,
-                    test_dim,
-                    trial_dim,
-                    points,
-                    weights,
-                    test_table,
-                    trial_table,
-                    kernel,
-                    test_geometry,
-                    trial_geometry,
-                );
-                self.write_entries(test_dofs, trial_dofs, e, &entries, rows, columns, values);
-                Added::Accepted(self.advanced())
-            }
+        let pair = self.state_checked(plan, self.entries_right(lists))?;
+        if !self.kinds_put(pair.test, pair.trial) {
+            return Err(Refusal::Record);
         }
+        if !(TouchingNumbers::is_taken(pair.item.pattern) & self.entries) {
+            return Err(Refusal::Kind);
+        }
+        let mut entries = [0.0; 100];
+        self.write_local(pair, lent, &mut entries)?;
+        self.write_entries(plan, pair, &entries, lists);
+        self.position += 1;
+        Ok(())
     }
 }

@@ -4,6 +4,7 @@
 mod adds;
 mod calls;
 mod entries;
+mod lent;
 
 use cell_pairs::WorkRecord;
 use plans::PlanNumbers;
@@ -14,20 +15,6 @@ pub struct Run {
     pub numbers: PlanNumbers,
     pub entries: bool,
     pub position: u32,
-}
-
-// What look hands back.
-#[derive(Clone, Copy)]
-pub enum Looked {
-    Found(Run, WorkRecord),
-    Refused(Run, u32),
-}
-
-// What an add or the entries call hands back.
-#[derive(Clone, Copy)]
-pub enum Added {
-    Accepted(Run),
-    Refused(Run, u32),
 }
 
 // A cell of record p: its kind, and where its DOFs begin in the DOF list of its side and how many they are.
@@ -44,11 +31,4 @@ pub(crate) struct Pair {
     pub item: WorkRecord,
     pub test: Cell,
     pub trial: Cell,
-}
-
-// What the checks that every call makes hand back: record p and its cells where all pass, else the refusal.
-#[derive(Clone, Copy)]
-pub(crate) enum Checked {
-    Passed(Pair),
-    Refused(u32),
 }

@@ -20,8 +20,7 @@ use Rattle.cell_pairs.specs.WorkRecords.{of_pair}
 use Rattle.cell_pairs.proofs.Counting.{once, split, kinds_split, length_work, record_distant, record_touching}
 use Rattle.grid.specs.Mesh.{corners, sides}
 use Rattle.plans.specs.declared.PlanNumbers.{PlanNumbers}
-use Rattle.plans.specs.declared.Planned.TheVariants.{Ready as ready, Refused as refused}
-use Rattle.plans.specs.Planning.{Planning, Lists, plan_refusal, plan_answer, unless_refused, space_on, work_records, plan_numbers, plan, plan_lists, written_lists}
+use Rattle.plans.specs.Planning.{ready, refused, Planning, Lists, plan_refusal, plan_answer, unless_refused, space_on, work_records, plan_numbers, plan, plan_lists, written_lists}
 use Rattle.plans.specs.Accepted.{Accepted, accepted, counted, mesh_fine, Fits, test_fits, trial_fits, filled, matched, ready_is}
 use Rattle.plans.specs.Promises.{Listed, Promised, Spaced}
 

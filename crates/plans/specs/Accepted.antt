@@ -20,8 +20,7 @@ use Rattle.cell_pairs.specs.Patterns.{patterns_right}
 use Rattle.cell_pairs.specs.Counting.{Countable}
 use Rattle.cell_pairs.proofs.Counting.{countable}
 use Rattle.plans.specs.declared.PlanNumbers.{PlanNumbers}
-use Rattle.plans.specs.declared.Planned.TheVariants.{Ready as ready}
-use Rattle.plans.specs.Planning.{Planning, Lists, batch_right, lengths_right, plan_checks, plan_refusal, plan_numbers, plan_answer, plan, places_on, elements_fit, space_on, test_space, trial_space}
+use Rattle.plans.specs.Planning.{ready, Planning, Lists, batch_right, lengths_right, plan_checks, plan_refusal, plan_numbers, plan_answer, plan, places_on, elements_fit, space_on, test_space, trial_space}
 
 pub record Accepted (x : Planning) (l : Lists) : Type 0 where
   pub cells : cells_right x.mesh ≡ true

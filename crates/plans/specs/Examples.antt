@@ -11,9 +11,7 @@ use Rattle.integrands.specs.Examples.{opened_integrands}
 use Rattle.cell_pairs.specs.Records.{rec, flat}
 use Rattle.cell_pairs.specs.Examples.{opened_cell_pairs}
 use Rattle.plans.specs.declared.PlanNumbers.{PlanNumbers}
-use Rattle.plans.specs.declared.Planned.{Planned}
-use Rattle.plans.specs.declared.Planned.TheVariants.{Ready as ready, Refused as refused}
-use Rattle.plans.specs.Planning.{Planning, Lists, lists_of, lists_for, batch_right, lengths_right, plan_refusal, plan_numbers, plan, planned_number, written_lists, plan_lists}
+use Rattle.plans.specs.Planning.{Planned, ready, refused, Planning, Lists, lists_of, lists_for, batch_right, lengths_right, plan_refusal, plan_numbers, plan, planned_number, written_lists, plan_lists}
 
 -- opens the definitions of this crate and of those below it
 unfoldable pub opened_plans : Unit {0}

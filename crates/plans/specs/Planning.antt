@@ -17,8 +17,6 @@ use Rattle.cell_pairs.specs.Patterns.{patterns_right}
 use Rattle.cell_pairs.specs.WorkList.{most_batch, work_list, sharing_pairs, sharing_of, distant_pairs}
 use Rattle.plans.specs.declared.KindPairs.{KindPairs}
 use Rattle.plans.specs.declared.PlanNumbers.{PlanNumbers}
-use Rattle.plans.specs.declared.Planned.{Planned}
-use Rattle.plans.specs.declared.Planned.TheVariants.{Ready as ready, Refused as refused}
 
 -- What planning is given
 pub record Planning : Type 0 where
@@ -37,6 +35,11 @@ pub record Lists : Type 0 where
   pub test_owners : List ℕ
   pub trial_owners : List ℕ
   pub work : List ℕ
+
+-- What it answers: its numbers, or the number of a refusal
+pub data Planned : Type 0 where
+  ready : PlanNumbers → Planned
+  refused : ℕ → Planned
 
 -- from the arguments of a call
 abbrev pub planning_of : Mesh → Elements → Elements → ℕ → Integrand → Planning

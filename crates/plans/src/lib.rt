@@ -34,9 +34,23 @@ pub struct PlanNumbers {
     pub integrand: Integrand,
 }
 
-// What planning answers: its numbers, or a refusal's number.
+// The plan that a run's calls are lent, as planning wrote it: the kind list, the two DOF lists and the work list.
 #[derive(Clone, Copy)]
-pub enum Planned {
-    Ready(PlanNumbers),
-    Refused(u32),
+pub struct Plan<'a> {
+    pub kinds: &'a [u8],
+    pub test_dofs: &'a [u32],
+    pub trial_dofs: &'a [u32],
+    pub work: &'a [u32],
+}
+
+// The lists that planning is lent to write: each side has its own DOF, colour and owner list.
+#[derive(Drop)]
+pub struct PlanLists<'a> {
+    pub test_dofs: &'a mut [u32],
+    pub trial_dofs: &'a mut [u32],
+    pub test_colours: &'a mut [u32],
+    pub trial_colours: &'a mut [u32],
+    pub test_owners: &'a mut [u32],
+    pub trial_owners: &'a mut [u32],
+    pub work: &'a mut [u32],
 }

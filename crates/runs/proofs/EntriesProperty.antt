@@ -9,8 +9,7 @@ use Rattle.std.proofs.lemmas.List.{length-map}
 use Rattle.lent_numbers.specs.Lent.{Touching}
 use Rattle.cell_pairs.specs.WorkList.{touching_part, distant_pairs}
 use Rattle.plans.specs.declared.PlanNumbers.{PlanNumbers}
-use Rattle.plans.specs.declared.Planned.TheVariants.{Ready as ready}
-use Rattle.plans.specs.Planning.{Planning, Lists, plan, plan_lists}
+use Rattle.plans.specs.Planning.{ready, Planning, Lists, plan, plan_lists}
 use Rattle.plans.specs.Accepted.{Accepted, accepted, ready_is}
 use Rattle.runs.specs.Runs.{EntryLists, begin_entries}
 use Rattle.runs.specs.Calls.{Call, adds_entries, Progress, call_all}

@@ -10,8 +10,7 @@ use Rattle.cell_pairs.proofs.BlocksFacts.{touching_blocked}
 use Rattle.cell_pairs.specs.WorkRecords.{Distant, Touching}
 use Rattle.cell_pairs.proofs.Counting.{length_distant, length_work, record_distant, record_touching, records_right}
 use Rattle.plans.specs.declared.PlanNumbers.{PlanNumbers}
-use Rattle.plans.specs.declared.Planned.TheVariants.{Ready as ready}
-use Rattle.plans.specs.Planning.{Planning, Lists, plan, plan_refusal, plan_lists, written_lists, work_records}
+use Rattle.plans.specs.Planning.{ready, Planning, Lists, plan, plan_refusal, plan_lists, written_lists, work_records}
 use Rattle.plans.specs.Accepted.{Accepted, accepted, counted, ready_is}
 use Rattle.runs.specs.Runs.{EntryLists, is_touching, is_distant, begun}
 use Rattle.runs.specs.Calls.{Call, call_all}

@@ -11,8 +11,7 @@ use Rattle.lists.specs.Total.{count}
 use Rattle.cell_pairs.specs.WorkRecords.{of_pair}
 use Rattle.cell_pairs.proofs.Counting.{once, length_work}
 use Rattle.plans.specs.declared.PlanNumbers.{PlanNumbers}
-use Rattle.plans.specs.declared.Planned.TheVariants.{Ready as ready}
-use Rattle.plans.specs.Planning.{Planning, Lists, plan, plan_lists, work_records}
+use Rattle.plans.specs.Planning.{ready, Planning, Lists, plan, plan_lists, work_records}
 use Rattle.plans.specs.Accepted.{Accepted, accepted, counted, ready_is}
 use Rattle.runs.specs.Runs.{EntryLists, refused, begin}
 use Rattle.runs.specs.Calls.{Call, looks, Progress, call_all}

@@ -8,8 +8,7 @@ use Rattle.std.proofs.Math.ListN.{length}
 use Rattle.lent_numbers.specs.Lent.{Touching}
 use Rattle.cell_pairs.specs.WorkList.{touching_part}
 use Rattle.plans.specs.declared.PlanNumbers.{PlanNumbers}
-use Rattle.plans.specs.declared.Planned.TheVariants.{Ready as ready}
-use Rattle.plans.specs.Planning.{Planning, Lists, plan, plan_lists, plan_numbers}
+use Rattle.plans.specs.Planning.{ready, Planning, Lists, plan, plan_lists, plan_numbers}
 use Rattle.plans.specs.Accepted.{Accepted, accepted, ready_is}
 use Rattle.runs.specs.Runs.{EntryLists, begin_entries}
 use Rattle.runs.specs.Calls.{Call, Progress, call_all}

@@ -21,10 +21,8 @@ use Rattle.cell_pairs.specs.WorkList.{work_list}
 use Rattle.cell_pairs.specs.WorkRecords.{Distant, Touching}
 use Rattle.cell_pairs.proofs.WorkRecordsFacts.{distant_each, touching_each}
 use Rattle.cell_pairs.proofs.Counting.{length_work}
-use Rattle.plans.specs.declared.Planned.{Planned}
+use Rattle.plans.specs.Planning.{Planned, ready, refused, Planning, Lists, lists_for, dof_places, places_on, elements_fit, batch_right, lengths_right, plan_refusal, plan_answer, plan, plan_lists, written_lists, work_records}
 use Rattle.plans.specs.declared.PlanNumbers.{PlanNumbers}
-use Rattle.plans.specs.declared.Planned.TheVariants.{Ready as ready, Refused as refused}
-use Rattle.plans.specs.Planning.{Planning, Lists, lists_for, dof_places, places_on, elements_fit, batch_right, lengths_right, plan_refusal, plan_answer, plan, plan_lists, written_lists, work_records}
 use Rattle.plans.specs.Accepted.{accepted, counted, ready_is}
 use Rattle.planning.specs.declared.Assembly.{Assembly}
 use Rattle.planning.specs.Arguments.{planning_with}

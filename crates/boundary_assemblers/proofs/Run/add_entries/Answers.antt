@@ -1,67 +1,66 @@
--- `boundary_assemblers::Run::add_entries` meets its contract: a refusal is answered as such, and nothing is written; where there is none, the entries are written. Assumes nothing.
-use native.Mathlib.Omega.{arith}
-use mathlib.Core.Path.{refl, sym, ◌∙◌}
-use borrow.Author.Tests.{not-false}
+-- `boundary_assemblers::Run::add_entries` meets its contract: a refusal is answered as such, and nothing is written; where there is none, the entries are written.
+-- Assumes nothing.
+use Rattle.std.proofs.Common.{arith, refl, sym, ap, ◌∙◌}
+use Rattle.std.specs.Prelude.{Bool}
+use Rattle.std.proofs.lemmas.Result.{err_from_is_err_and}
 use Rattle.lists.specs.Bool.{◌and◌, and_right, turned, passed}
-use Rattle.lists.specs.Refusals.{refusal_fails, refusal_passes}
-use Rattle.lent_numbers.specs.Lent.{touching}
-use Rattle.boundary_assemblers.specs.Forms.{run_of}
-use Rattle.lent_numbers.specs.Entries.{touching_entry}
-use Rattle.lent_numbers.specs.Sizes.{touching_fits}
-use Rattle.runs.specs.Runs.{is_touching, kinds_put, entries_refusal, add_entries, entries_written}
-use Rattle.boundary_assemblers.specs.RunFacts.{standing}
-use Rattle.boundary_assemblers.specs.AddFacts.{check_fails, check_passes, by_state, by_rest, by_none}
-use Rattle.boundary_assemblers.specs.EntryFacts.{sized_same, entries_behind, fit, values_are}
-use Rattle.runs.specs.Runs.{plan_of, entry_lists, written, entries_right}
-use Rattle.lent_numbers.specs.Entries.{touching_entry}
+use Rattle.lent_numbers.specs.Forms.{touching_of}
+use Rattle.runs.specs.Runs.{is_touching}
+use Rattle.boundary_assemblers.specs.Forms.{run_of, plan_lent, entries_lent}
+use Rattle.boundary_assemblers.specs.RunFacts.{Passed, standing}
+use Rattle.boundary_assemblers.specs.EntryFacts.{sized_same, fit, entries_by_state, entries_by_put, entries_by_kind, entries_by_lent, entries_by_none}
 use Rattle.boundary_assemblers.proofs.Run.add_entries.Goals as goal
 
+pub returns-in_err-pair : goal.returns-in_err-pair
+returns-in_err-pair c =
+    let p = err_from_is_err_and c.from_residual.result c.from_residual.ensures.1 in
+    let both = entries_by_state (touching_of c.args.lent) (run_of c.args.self.now) (plan_lent c.args.plan) (entries_lent c.args.lists.now) _ (rw c.entries_right.ensures at c.in_err-pair.ensures.refusal ∙ sized_same _ _ _) in
+    rw (p.1, p.2) (record { result_value = both.0; values_after = both.1; refused = (refl, refl); same = record { rows = refl; columns = refl; values = refl } })
+
 pub kinds_put-requires : goal.kinds_put-requires
-kinds_put-requires c = let h = standing _ _ _ (sized_same _ _ _ (sym c.in-Passed.is ∙ rw c.entries_right-sized.ensures at c.state_checked.ensures)) in (h.counts, h.below)
+kinds_put-requires c = let h = standing _ _ _ (record { none = sym (sized_same _ _ _) ∙ sym (rw c.entries_right.ensures at c.in_ok-pair.ensures.refusal); pair = c.in_ok-pair.ensures.pair }) in (h.counts, h.below)
 
 pub returns-then-not-kinds_put : goal.returns-then-not-kinds_put
-unfolding add_entries entries_written entries_refusal kinds_put ◌and◌
 returns-then-not-kinds_put c =
-    let both = by_rest (run_of c.args.self) (plan_of c.args.kinds.now c.args.test_dofs.now c.args.trial_dofs.now c.args.work.now) (entries_right (run_of c.args.self) (entry_lists c.args.rows.now c.args.columns.now c.args.values.now)) (entries_behind (run_of c.args.self) (touching c.args.points c.args.weights.now c.args.test_table.now c.args.trial_table.now c.args.kernel.now c.args.test_geometry.now c.args.trial_geometry.now)) (entry_lists c.args.rows.now c.args.columns.now c.args.values.now) (written (run_of c.args.self) (plan_of c.args.kinds.now c.args.test_dofs.now c.args.trial_dofs.now c.args.work.now) (touching_entry c.args.self.numbers.integrand (touching c.args.points c.args.weights.now c.args.test_table.now c.args.trial_table.now c.args.kernel.now c.args.test_geometry.now c.args.trial_geometry.now)) (entry_lists c.args.rows.now c.args.columns.now c.args.values.now)) (sized_same _ _ _ (sym c.in-Passed.is ∙ rw c.entries_right-sized.ensures at c.state_checked.ensures)) 22 (sym (refusal_fails 22 _ _ (turned c.kinds_put.ensures c.if-not-kinds_put.true-raw))) (λ z. omega arith) in
-    record { result_value = both.0; values_after = both.1 }
+    let both = entries_by_put (touching_of c.args.lent) (run_of c.args.self.now) (plan_lent c.args.plan) (entries_lent c.args.lists.now) (record { none = sym (sized_same _ _ _) ∙ sym (rw c.entries_right.ensures at c.in_ok-pair.ensures.refusal); pair = c.in_ok-pair.ensures.pair }) (turned c.kinds_put.ensures c.if-not-kinds_put.true-raw) in
+    record { result_value = both.0; values_after = both.1; refused = (refl, refl); same = record { rows = refl; columns = refl; values = refl } }
 
-pub returns-then-not-item-self : goal.returns-then-not-item-self
-unfolding add_entries entries_written entries_refusal kinds_put ◌and◌
-returns-then-not-item-self c =
-    let both = by_rest (run_of c.args.self) (plan_of c.args.kinds.now c.args.test_dofs.now c.args.trial_dofs.now c.args.work.now) (entries_right (run_of c.args.self) (entry_lists c.args.rows.now c.args.columns.now c.args.values.now)) (entries_behind (run_of c.args.self) (touching c.args.points c.args.weights.now c.args.test_table.now c.args.trial_table.now c.args.kernel.now c.args.test_geometry.now c.args.trial_geometry.now)) (entry_lists c.args.rows.now c.args.columns.now c.args.values.now) (written (run_of c.args.self) (plan_of c.args.kinds.now c.args.test_dofs.now c.args.trial_dofs.now c.args.work.now) (touching_entry c.args.self.numbers.integrand (touching c.args.points c.args.weights.now c.args.test_table.now c.args.trial_table.now c.args.kernel.now c.args.test_geometry.now c.args.trial_geometry.now)) (entry_lists c.args.rows.now c.args.columns.now c.args.values.now)) (sized_same _ _ _ (sym c.in-Passed.is ∙ rw c.entries_right-sized.ensures at c.state_checked.ensures)) 23 (check_fails 23 _ _ c.if-not-item-self.true-raw ∙ sym (refusal_passes 22 _ _ (passed c.kinds_put.ensures c.if-not-kinds_put.false-raw))) (λ z. omega arith) in
-    record { result_value = both.0; values_after = both.1 }
+pub returns-then-not-is_taken-self : goal.returns-then-not-is_taken-self
+unfolding ◌and◌
+returns-then-not-is_taken-self c =
+    let both = entries_by_kind (touching_of c.args.lent) (run_of c.args.self.now) (plan_lent c.args.plan) (entries_lent c.args.lists.now)
+    (record { none = sym (sized_same _ _ _) ∙ sym (rw c.entries_right.ensures at c.in_ok-pair.ensures.refusal); pair = c.in_ok-pair.ensures.pair }) (passed c.kinds_put.ensures c.if-not-kinds_put.false-raw)
+    (turned (ap (λ (b : Bool). b and c.args.self.now.entries) c.is_taken.ensures) c.if-not-is_taken-self.true-raw) in
+    record { result_value = both.0; values_after = both.1; refused = (refl, refl); same = record { rows = refl; columns = refl; values = refl } }
 
-pub touching_refusal-v-requires : goal.touching_refusal-v-requires
-touching_refusal-v-requires c = let h = standing _ _ _ (sized_same _ _ _ (sym c.in-Passed.is ∙ rw c.entries_right-sized.ensures at c.state_checked.ensures)) in (h.test.few, h.trial.few)
+pub write_local-requires : goal.write_local-requires
+write_local-requires c =
+    let h = standing _ _ _ (record { none = sym (sized_same _ _ _) ∙ sym (rw c.entries_right.ensures at c.in_ok-pair.ensures.refusal); pair = c.in_ok-pair.ensures.pair }) in
+    record { right = h.ranges.integrand; few = (h.test.few, h.trial.few); zeros = refl }
 
-pub returns-then-v-ne0 : goal.returns-then-v-ne0
-unfolding add_entries entries_written entries_refusal kinds_put ◌and◌
-returns-then-v-ne0 c =
-    let both = by_rest (run_of c.args.self) (plan_of c.args.kinds.now c.args.test_dofs.now c.args.trial_dofs.now c.args.work.now) (entries_right (run_of c.args.self) (entry_lists c.args.rows.now c.args.columns.now c.args.values.now)) (entries_behind (run_of c.args.self) (touching c.args.points c.args.weights.now c.args.test_table.now c.args.trial_table.now c.args.kernel.now c.args.test_geometry.now c.args.trial_geometry.now)) (entry_lists c.args.rows.now c.args.columns.now c.args.values.now) (written (run_of c.args.self) (plan_of c.args.kinds.now c.args.test_dofs.now c.args.trial_dofs.now c.args.work.now) (touching_entry c.args.self.numbers.integrand (touching c.args.points c.args.weights.now c.args.test_table.now c.args.trial_table.now c.args.kernel.now c.args.test_geometry.now c.args.trial_geometry.now)) (entry_lists c.args.rows.now c.args.columns.now c.args.values.now)) (sized_same _ _ _ (sym c.in-Passed.is ∙ rw c.entries_right-sized.ensures at c.state_checked.ensures)) _ (check_passes 23 _ _ c.if-not-item-self.false-raw c.touching_refusal-v.ensures ∙ sym (refusal_passes 22 _ _ (passed c.kinds_put.ensures c.if-not-kinds_put.false-raw))) c.if-v-ne0.true in
-    record { result_value = both.0; values_after = both.1 }
-
-pub touching_matrix-requires : goal.touching_matrix-requires
-touching_matrix-requires c = let h = standing _ _ _ (sized_same _ _ _ (sym c.in-Passed.is ∙ rw c.entries_right-sized.ensures at c.state_checked.ensures)) in (touching_fits _ _ _ _ h.ranges.integrand h.test.few h.trial.few (sym c.touching_refusal-v.ensures ∙ c.if-v-ne0.false), refl)
+pub returns-in_err-write_local : goal.returns-in_err-write_local
+unfolding ◌and◌
+returns-in_err-write_local c =
+    let p = err_from_is_err_and c.from_residual-in_err-write_local.result c.from_residual-in_err-write_local.ensures.1 in
+    let both = entries_by_lent (touching_of c.args.lent) (run_of c.args.self.now) (plan_lent c.args.plan) (entries_lent c.args.lists.now)
+    (record { none = sym (sized_same _ _ _) ∙ sym (rw c.entries_right.ensures at c.in_ok-pair.ensures.refusal); pair = c.in_ok-pair.ensures.pair }) (passed c.kinds_put.ensures c.if-not-kinds_put.false-raw)
+    (passed (ap (λ (b : Bool). b and c.args.self.now.entries) c.is_taken.ensures) c.if-not-is_taken-self.false-raw) c.in_err-write_local.ensures.refusal _ refl in
+    rw (p.1, p.2) (record { result_value = both.0; values_after = both.1; refused = (refl, refl); same = record { rows = refl; columns = refl; values = refl } })
 
 pub write_entries-requires : goal.write_entries-requires
 unfolding ◌and◌
-write_entries-requires c =
-    let s = (sized_same _ _ _ (sym c.in-Passed.is ∙ rw c.entries_right-sized.ensures at c.state_checked.ensures)) in
-    record { standing = standing _ _ _ s; fit = fit _ _ _ s (and_right (is_touching c.in-Passed.e.item.pattern) _ (not-false _ c.if-not-item-self.false-raw)) (passed c.kinds_put.ensures c.if-not-kinds_put.false-raw) }
+write_entries-requires c = record {
+  standing = standing _ _ _ (record { none = sym (sized_same _ _ _) ∙ sym (rw c.entries_right.ensures at c.in_ok-pair.ensures.refusal); pair = c.in_ok-pair.ensures.pair });
+  fit = fit _ _ _ (record { none = sym (sized_same _ _ _) ∙ sym (rw c.entries_right.ensures at c.in_ok-pair.ensures.refusal); pair = c.in_ok-pair.ensures.pair }) (and_right (is_touching c.in_ok-pair.pair.item.pattern) _ (passed (ap (λ (b : Bool). b and c.args.self.now.entries) c.is_taken.ensures) c.if-not-is_taken-self.false-raw)) (passed c.kinds_put.ensures c.if-not-kinds_put.false-raw);
+}
 
-pub advanced-requires : goal.advanced-requires
-advanced-requires c = let h = standing _ _ _ (sized_same _ _ _ (sym c.in-Passed.is ∙ rw c.entries_right-sized.ensures at c.state_checked.ensures)) in omega (arith, h.below, h.ranges.all_pairs)
+pub overflow_add-self : goal.overflow_add-self
+overflow_add-self c = let h = standing _ _ _ (record { none = sym (sized_same _ _ _) ∙ sym (rw c.entries_right.ensures at c.in_ok-pair.ensures.refusal); pair = c.in_ok-pair.ensures.pair }) in omega (arith, h.below, h.ranges.all_pairs)
 
-pub returns-in-Refused : goal.returns-in-Refused
-unfolding add_entries entries_written entries_refusal kinds_put
-returns-in-Refused c =
-    let both = by_state (run_of c.args.self) (plan_of c.args.kinds.now c.args.test_dofs.now c.args.trial_dofs.now c.args.work.now) (entries_right (run_of c.args.self) (entry_lists c.args.rows.now c.args.columns.now c.args.values.now)) (entries_behind (run_of c.args.self) (touching c.args.points c.args.weights.now c.args.test_table.now c.args.trial_table.now c.args.kernel.now c.args.test_geometry.now c.args.trial_geometry.now)) (entry_lists c.args.rows.now c.args.columns.now c.args.values.now) (written (run_of c.args.self) (plan_of c.args.kinds.now c.args.test_dofs.now c.args.trial_dofs.now c.args.work.now) (touching_entry c.args.self.numbers.integrand (touching c.args.points c.args.weights.now c.args.test_table.now c.args.trial_table.now c.args.kernel.now c.args.test_geometry.now c.args.trial_geometry.now)) (entry_lists c.args.rows.now c.args.columns.now c.args.values.now)) (sized_same _ _ _ (sym c.in-Refused.is ∙ rw c.entries_right-sized.ensures at c.state_checked.ensures)) in
-    record { result_value = both.0; values_after = both.1 }
-
-pub returns-else-v-ne0 : goal.returns-else-v-ne0
-unfolding add_entries entries_written entries_refusal kinds_put ◌and◌
-returns-else-v-ne0 c =
-    let s = (sized_same _ _ _ (sym c.in-Passed.is ∙ rw c.entries_right-sized.ensures at c.state_checked.ensures)) in
-    let both = by_none (run_of c.args.self) (plan_of c.args.kinds.now c.args.test_dofs.now c.args.trial_dofs.now c.args.work.now) (entries_right (run_of c.args.self) (entry_lists c.args.rows.now c.args.columns.now c.args.values.now)) (entries_behind (run_of c.args.self) (touching c.args.points c.args.weights.now c.args.test_table.now c.args.trial_table.now c.args.kernel.now c.args.test_geometry.now c.args.trial_geometry.now)) (entry_lists c.args.rows.now c.args.columns.now c.args.values.now) (written (run_of c.args.self) (plan_of c.args.kinds.now c.args.test_dofs.now c.args.trial_dofs.now c.args.work.now) (touching_entry c.args.self.numbers.integrand (touching c.args.points c.args.weights.now c.args.test_table.now c.args.trial_table.now c.args.kernel.now c.args.test_geometry.now c.args.trial_geometry.now)) (entry_lists c.args.rows.now c.args.columns.now c.args.values.now)) s _ (check_passes 23 _ _ c.if-not-item-self.false-raw c.touching_refusal-v.ensures ∙ sym (refusal_passes 22 _ _ (passed c.kinds_put.ensures c.if-not-kinds_put.false-raw))) c.if-v-ne0.false c.advanced.ensures
-    (c.write_entries.ensures ∙ values_are _ _ _ s _ (touching_entry _ _) c.touching_matrix.ensures) in
-    record { result_value = both.0; values_after = both.1 }
+pub returns : goal.returns
+unfolding ◌and◌
+returns c =
+    let both = entries_by_none (touching_of c.args.lent) (run_of c.args.self.now) (plan_lent c.args.plan) (entries_lent c.args.lists.now)
+    (record { none = sym (sized_same _ _ _) ∙ sym (rw c.entries_right.ensures at c.in_ok-pair.ensures.refusal); pair = c.in_ok-pair.ensures.pair }) (passed c.kinds_put.ensures c.if-not-kinds_put.false-raw)
+    (passed (ap (λ (b : Bool). b and c.args.self.now.entries) c.is_taken.ensures) c.if-not-is_taken-self.false-raw) c.in_ok-write_local.ensures.refusal refl c.in_ok-write_local.ensures.held c.write_entries.ensures.written in
+    record { result_value = both.0; values_after = both.1; refused = tt; same = c.write_entries.ensures.same }

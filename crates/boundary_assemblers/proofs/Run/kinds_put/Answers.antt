@@ -9,24 +9,24 @@ use Rattle.boundary_assemblers.proofs.Run.kinds_put.Goals as goal
 
 pub returns-then-self-n : goal.returns-then-self-n
 returns-then-self-n c =
-    put_early (run_of c.args.self) c.args.test.kind c.args.trial.kind c.if-self-n.true
+    put_early (run_of c.args.self.now) c.args.test.kind c.args.trial.kind c.if-self-n.true
 
 pub returns-then-q-k : goal.returns-then-q-k
 unfolding ◌and◌
 returns-then-q-k c =
-    put_in (run_of c.args.self) c.args.test.kind c.args.trial.kind (omega (arith, c.if-self-n.false)) _ (block_one c.args.self.numbers (c.args.self.position - c.args.self.numbers.distant) c.if-q-k.true)
+    put_in (run_of c.args.self.now) c.args.test.kind c.args.trial.kind (omega (arith, c.if-self-n.false)) _ (block_one c.args.self.now.numbers (c.args.self.now.position - c.args.self.now.numbers.distant) c.if-q-k.true)
 
 pub returns-then-q-k-2 : goal.returns-then-q-k-2
 unfolding ◌and◌
 returns-then-q-k-2 c =
-    put_in (run_of c.args.self) c.args.test.kind c.args.trial.kind (omega (arith, c.if-self-n.false)) _ (block_two c.args.self.numbers (c.args.self.position - c.args.self.numbers.distant) c.if-q-k.false c.if-q-k-2.true)
+    put_in (run_of c.args.self.now) c.args.test.kind c.args.trial.kind (omega (arith, c.if-self-n.false)) _ (block_two c.args.self.now.numbers (c.args.self.now.position - c.args.self.now.numbers.distant) c.if-q-k.false c.if-q-k-2.true)
 
 pub returns-then-q-k-3 : goal.returns-then-q-k-3
 unfolding ◌and◌
 returns-then-q-k-3 c =
-    put_in (run_of c.args.self) c.args.test.kind c.args.trial.kind (omega (arith, c.if-self-n.false)) _ (block_three c.args.self.numbers (c.args.self.position - c.args.self.numbers.distant) c.if-q-k.false c.if-q-k-2.false c.if-q-k-3.true)
+    put_in (run_of c.args.self.now) c.args.test.kind c.args.trial.kind (omega (arith, c.if-self-n.false)) _ (block_three c.args.self.now.numbers (c.args.self.now.position - c.args.self.now.numbers.distant) c.if-q-k.false c.if-q-k-2.false c.if-q-k-3.true)
 
 pub returns : goal.returns
 unfolding ◌and◌
 returns c =
-    put_in (run_of c.args.self) c.args.test.kind c.args.trial.kind (omega (arith, c.if-self-n.false)) _ (block_four c.args.self.numbers (c.args.self.position - c.args.self.numbers.distant) c.if-q-k.false c.if-q-k-2.false c.if-q-k-3.false (last_left c.args.self.position c.args.self.numbers.distant c.args.self.numbers.touching (pairs c.args.self.numbers) c.args.self.numbers.pairs.triangle_triangle c.args.self.numbers.pairs.triangle_quad c.args.self.numbers.pairs.quad_triangle c.args.self.numbers.pairs.quad_quad c.requires.0.touching c.requires.0.all c.requires.1 (omega (arith, c.if-self-n.false)) c.if-q-k.false c.if-q-k-2.false c.if-q-k-3.false))
+    put_in (run_of c.args.self.now) c.args.test.kind c.args.trial.kind (omega (arith, c.if-self-n.false)) _ (block_four c.args.self.now.numbers (c.args.self.now.position - c.args.self.now.numbers.distant) c.if-q-k.false c.if-q-k-2.false c.if-q-k-3.false (last_left c.args.self.now.position c.args.self.now.numbers.distant c.args.self.now.numbers.touching (pairs c.args.self.now.numbers) c.args.self.now.numbers.pairs.triangle_triangle c.args.self.now.numbers.pairs.triangle_quad c.args.self.now.numbers.pairs.quad_triangle c.args.self.now.numbers.pairs.quad_quad c.requires.0.touching c.requires.0.all c.requires.1 (omega (arith, c.if-self-n.false)) c.if-q-k.false c.if-q-k-2.false c.if-q-k-3.false))

@@ -1,13 +1,16 @@
 -- `boundary_assemblers::Run::look` meets its contract: a refusal is answered as such; where there is none, the checks hand record p on. Assumes nothing.
-use mathlib.Core.Path.{sym, ◌∙◌}
+use Rattle.std.proofs.Common.{sym, ◌∙◌}
+use Rattle.std.proofs.lemmas.Result.{err_from_is_err_and}
 use Rattle.runs.specs.Runs.{look_refusal, look}
-use Rattle.boundary_assemblers.specs.RunFacts.{state_refused, state_passed, reply_refused}
+use Rattle.boundary_assemblers.specs.RunFacts.{reply_refused}
 use Rattle.boundary_assemblers.proofs.Run.look.Goals as goal
 
-pub returns-in-Refused : goal.returns-in-Refused
+pub returns-in_err-pair : goal.returns-in_err-pair
 unfolding look look_refusal
-returns-in-Refused c = let p = state_refused _ _ _ (sym c.in-Refused.is ∙ c.state_checked.ensures) in reply_refused _ _ _ _ _ p.0 p.1
+returns-in_err-pair c =
+    let p = err_from_is_err_and c.from_residual.result c.from_residual.ensures.1 in
+    rw (p.1, p.2) (reply_refused _ c.in_err-pair.ensures.refusal _ _ _)
 
-pub returns-in-Passed : goal.returns-in-Passed
+pub returns : goal.returns
 unfolding look look_refusal
-returns-in-Passed c = let p = state_passed _ _ _ (sym c.in-Passed.is ∙ c.state_checked.ensures) in rw (p.0, p.1)
+returns c = rw (sym c.in_ok-pair.ensures.refusal, c.in_ok-pair.ensures.pair)
