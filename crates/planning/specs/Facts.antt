@@ -3,6 +3,8 @@ use Rattle.std.specs.Prelude.{ℕ, zero, suc, ◌+◌, ◌*◌, ◌<◌, ◌≤�
 use Rattle.std.proofs.Common.{zero-mul, mul-le-mul, mul-le-mul_right, arith, sym, ap, subst, ◌∙◌}
 use Rattle.lists.specs.Bool.{every, and_left, and_right}
 use Rattle.lists.specs.Refusals.{check, refusal, Answers, answers, refusal_first, refusal_rest}
+use Rattle.refusals.specs.declared.Refusal.{Refusal}
+use Rattle.refusals.specs.Numbers.{number_of, number_nonzero}
 use Rattle.numbers.specs.Ranges.{within_high}
 use Rattle.grid.specs.declared.Sizes.{Sizes}
 use Rattle.grid.specs.Cells.{part, own, distinct}
@@ -98,62 +100,39 @@ module _ (m : Mesh) (f : Fine m) {t q : ℕ} (es : Elements) (e : t ≡ cells_of
   pub places_few_by : {n : ℕ} → elements_right t q es ≡ true → n ≡ t * cell_dim es 3 + q * cell_dim es 4 → n ≤ most_cells * most_dim
   places_few_by right h = omega (arith, places_by h, places_few m f es (rw (e, g) at right))
 
--- ---- check 7, by rows
+-- ---- check 7, by the rows of the cells
 
--- what checks 1, 26 and 2 have found of the cells' vertices
-pub record Rowable (s : Sizes) (ks vs : List ℕ) : Type 0 where
-  pub few : s.cells ≤ most_cells
-  pub top : s.vertices ≤ most_vertices
-  pub long : length ks ≡ s.cells
-  pub shaped : Shaped ks vs
-  pub below : (k : ℕ) → k < length vs → get_or vs k 0 < s.vertices
-  pub apart : (i : ℕ) → i < s.cells → distinct (part own ks vs i) ≡ true
-
-pub fine_rowable : (s : Sizes) (ks vs es : List ℕ) → Fine (mesh_with s ks vs es) → Rowable s ks vs
-unfolding corners
-fine_rowable s ks vs es f =
-    record {
-      few = f.few_cells;
-      top = f.few_vertices;
-      long = f.kinds_long;
-      shaped = vertices_shaped (mesh_with s ks vs es) f;
-      below = f.vertex_below;
-      apart = f.apart;
-    }
-
-module _ {s : Sizes} {ks vs : List ℕ} (w : Rowable s ks vs) {rows : List ℕ} (are : rows ≡ rows_of s.vertices ks vs (length ks)) where
-  cells_in : (i : ℕ) → i < s.cells → cell_in s.vertices rows i ≡ part own ks vs i
-  cells_in i h = ap (λ (l : List ℕ). cell_in s.vertices l i) are ∙ cell_rows s.vertices w.shaped w.below i (omega (arith, w.long))
-
-  -- what it asks of the rows, and that it is check 7 of the mesh
-  pub patterns_needs : ((length rows ≡ 4 * s.cells) × (s.cells ≤ most_cells) × (s.vertices ≤ most_vertices))
-      × (Below rows (s.vertices + 1) × (Padded s.vertices rows × ((k : ℕ) → k < s.cells → distinct_in s.vertices rows k ≡ true)))
-  patterns_needs = (
-    (ap length are ∙ length_rows s.vertices w.shaped ∙ ap (λ (n : ℕ). 4 * n) w.long, w.few, w.top),
-    (
-      subst (λ (l : List ℕ). Below l (s.vertices + 1)) (sym are) (record { below = rows_below s.vertices w.shaped w.below }),
-      (subst (Padded s.vertices) (sym are) (rows_padded s.vertices w.shaped w.below), (λ k h. ap distinct (cells_in k h) ∙ w.apart k h)),
-    ),
-  )
-
-  pub patterns_are : patterns_in s.vertices s.cells rows ≡ patterns_right (mesh_with s ks vs [])
+module _ {m : Mesh} (f : Fine m) {rows : List ℕ} (are : rows ≡ rows_of m.vertices m.kinds m.cell_vertices (length m.kinds)) where
+  cells_in : (i : ℕ) → i < m.cells → cell_in m.vertices rows i ≡ corners m i
   unfolding corners
-  patterns_are = mesh_patterns (mesh_with s ks vs []) s.vertices rows cells_in
+  cells_in i h =
+      ap (λ (l : List ℕ). cell_in m.vertices l i) are
+      ∙ cell_rows m.vertices (vertices_shaped m f) f.vertex_below i (omega (arith, f.kinds_long))
 
--- check 7 does not read the edges
-pub patterns_bare : (s : Sizes) (ks vs es : List ℕ) → patterns_right (mesh_with s ks vs []) ≡ patterns_right (mesh_with s ks vs es)
-unfolding patterns_right corners
-patterns_bare s ks vs es = refl
+  pub rows_below_top : Below rows (m.vertices + 1)
+  rows_below_top = subst (λ (l : List ℕ). Below l (m.vertices + 1)) (sym are) (record { below = rows_below m.vertices (vertices_shaped m f) f.vertex_below })
+
+  pub rows_are_padded : Padded m.vertices rows
+  rows_are_padded = subst (Padded m.vertices) (sym are) (rows_padded m.vertices (vertices_shaped m f) f.vertex_below)
+
+  pub rows_distinct : (k : ℕ) → k < m.cells → distinct_in m.vertices rows k ≡ true
+  rows_distinct k h = ap distinct (cells_in k h) ∙ f.apart k h
+
+  pub rows_long : length rows ≡ 4 * m.cells
+  rows_long = ap length are ∙ length_rows m.vertices (vertices_shaped m f) ∙ ap (λ (n : ℕ). 4 * n) f.kinds_long
+
+  pub patterns_are : patterns_in m.vertices m.cells rows ≡ patterns_right m
+  patterns_are = mesh_patterns m m.vertices rows cells_in
 
 -- ---- all checks
 
 -- checks 1 to 3 turn the mesh down
-pub mesh_fails : (x : Planning) (l : Lists) (v : ℕ) → v ≡ refusal (mesh_checks x.mesh) → (v ≡ 0 → ⊥) → v ≡ plan_refusal x l
+pub mesh_fails : (x : Planning) (l : Lists) (v : Refusal) → number_of v ≡ refusal (mesh_checks x.mesh) → number_of v ≡ plan_refusal x l
 unfolding plan_refusal
-mesh_fails x l v e h = refusal_first (mesh_checks x.mesh) _ v e h
+mesh_fails x l v e = refusal_first (mesh_checks x.mesh) _ (number_of v) e (number_nonzero v)
 
 -- they pass, and 4 to 8 answer
-pub mesh_passes : (x : Planning) (l : Lists) {v : ℕ} → refusal (mesh_checks x.mesh) ≡ 0
+pub mesh_passes : (x : Planning) (l : Lists) {v : ℕ} → 0 ≡ refusal (mesh_checks x.mesh)
     → Answers
     (check 4 (elements_fit x)
     ∷ check 5 (batch_right x.batch)
@@ -164,4 +143,4 @@ pub mesh_passes : (x : Planning) (l : Lists) {v : ℕ} → refusal (mesh_checks 
     v
     → v ≡ plan_refusal x l
 unfolding plan_refusal
-mesh_passes x l fine a = answers a ∙ sym (refusal_rest (mesh_checks x.mesh) _ fine refl)
+mesh_passes x l fine a = answers a ∙ sym (refusal_rest (mesh_checks x.mesh) _ (sym fine) refl)

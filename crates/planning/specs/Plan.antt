@@ -3,10 +3,13 @@ use Rattle.std.specs.Prelude.{ℕ, zero, suc, ◌*◌, ◌≤◌, ◌≡◌, tru
 use Rattle.std.proofs.Common.{arith, ◌∙◌, eqb-true}
 use Rattle.std.proofs.Math.Path.{refl, ap}
 use Rattle.lists.specs.Bool.{every_at}
+use Rattle.refusals.specs.declared.Refusal.{Refusal}
+use Rattle.refusals.specs.Numbers.{number_of, number_nonzero}
 use Rattle.numbers.specs.Ranges.{within_high}
 use Rattle.grid.specs.Mesh.{most_cells, Mesh, mesh_with, corners, sizes_of, cells_of}
 use Rattle.grid.specs.Facts.{vertices_shaped, edges_shaped}
 use Rattle.function.specs.declared.Elements.{Elements}
+use Rattle.function.specs.Elements.{Space}
 use Rattle.dof_numbering.specs.Numbering.{dof_list, dof_count, owner_list}
 use Rattle.dof_numbering.specs.Walk.{Sized}
 use Rattle.function.specs.Colours.{colour_list, colour_count, Colourable}
@@ -17,8 +20,7 @@ use Rattle.cell_pairs.specs.WorkList.{most_batch, coloured, distant_kinds, dista
 use Rattle.cell_pairs.specs.Counting.{Countable}
 use Rattle.plans.specs.declared.PlanNumbers.{PlanNumbers}
 use Rattle.plans.specs.declared.KindPairs.{KindPairs}
-use Rattle.plans.specs.declared.Planned.TheVariants.{Ready as ready, Refused as refused}
-use Rattle.plans.specs.Planning.{lists_of, plan_refusal, plan, plan_answer, plan_lists, unless_refused, Planning, Lists, dof_places, places_on, space_on, test_space, trial_space, batch_right, lengths_right, kind_pairs, plan_numbers, written_lists}
+use Rattle.plans.specs.Planning.{ready, refused, lists_of, plan_refusal, plan, plan_answer, plan_lists, unless_refused, Planning, Lists, dof_places, places_on, space_on, test_space, trial_space, batch_right, lengths_right, kind_pairs, plan_numbers, written_lists}
 use Rattle.plans.specs.Accepted.{Accepted, counted, mesh_fine, Fits, cell_dims, filled}
 use Rattle.planning.specs.Facts.{kinds_few, vertices_below, edges_below}
 use Rattle.planning.specs.Work.{Ready as WorkReady, Written}
@@ -46,21 +48,13 @@ lengths m test trial l h =
       work = eqb-true _ _ (every_at _ h 6);
     }
 
--- pairs and the work list read no edges
-abbrev edgeless : Mesh → Mesh
-edgeless m = mesh_with (sizes_of m.cells m.vertices m.edges) m.kinds m.cell_vertices []
-
-edgeless_pairs : (m : Mesh) → (distant_pairs (edgeless m) ≡ distant_pairs m) × (sharing_pairs (edgeless m) ≡ sharing_pairs m) × (kind_pairs (edgeless m) ≡ kind_pairs m)
-unfolding distant_pairs sharing_pairs sharing_of corners
-edgeless_pairs m = (refl, refl, refl)
-
-edgeless_work : (m : Mesh) (B : ℕ) (ts rs : List ℕ) → work_list (edgeless m) B ts rs ≡ work_list m B ts rs
-unfolding work_list distant_part distant_kinds coloured touching_part touching_pattern touching_pair corners
-edgeless_work m B ts rs = refl
-
-edgeless_patterns : (m : Mesh) → patterns_right m ≡ true → patterns_right (edgeless m) ≡ true
-unfolding patterns_right corners
-edgeless_patterns m e = e
+-- the three lists of one side, the tail of the owner list past the last record as it was, and how many DOFs and colours there are
+pub record SideWritten (s : Space) (C : ℕ) (before ds os cs : List ℕ) (n k : ℕ) : Type 0 where
+  pub dofs : ds ≡ dof_list s C
+  pub owners : os ≡ owner_list s C ++ drop (3 * dof_count s C) before
+  pub colours : cs ≡ colour_list s C
+  pub dof_total : n ≡ dof_count s C
+  pub colour_total : k ≡ colour_count (colour_list s C)
 
 module _ {x : Planning} {l : Lists} (ok : Accepted x l) where
   abbrev C : ℕ
@@ -69,9 +63,9 @@ module _ {x : Planning} {l : Lists} (ok : Accepted x l) where
   pub lens : Lengths x.mesh x.test x.trial l
   lens = lengths x.mesh x.test x.trial l ok.lengths
 
-  -- what `assign_dofs` asks
+  -- what writing one side asks
   module _ (es : Elements) (right : Fits x.mesh es) where
-    sized : Sized (space_on x.mesh es) C
+    pub sized : Sized (space_on x.mesh es) C
     sized =
         let m = mesh_fine ok in
         record {
@@ -82,22 +76,6 @@ module _ {x : Planning} {l : Lists} (ok : Accepted x l) where
           edges_below = λ p h. omega (arith, m.edge_below p h, m.few_edges);
         }
 
-    pub numbering_needs : (dofs owners : List ℕ) → length dofs ≡ places_on x.mesh es → length owners ≡ 3 * places_on x.mesh es
-        → Sized (space_on x.mesh es) (length x.mesh.kinds)
-        × ((length dofs ≡ dof_places (length x.mesh.kinds) x.mesh.kinds es) × (length owners ≡ 3 * dof_places (length x.mesh.kinds) x.mesh.kinds es))
-    numbering_needs dofs owners d o = rw (mesh_fine ok).kinds_long (sized, (d, o))
-
-  -- what it gives, of as many cells as there are kinds
-  pub numbering_gives : (es : Elements) (before : List ℕ) {r : ℕ} {dofs owners : List ℕ}
-      → (r ≡ dof_count (space_on x.mesh es) (length x.mesh.kinds))
-      × (dofs ≡ dof_list (space_on x.mesh es) (length x.mesh.kinds))
-      × (owners ≡ owner_list (space_on x.mesh es) (length x.mesh.kinds) ++ drop (3 * dof_count (space_on x.mesh es) (length x.mesh.kinds)) before)
-      → (r ≡ dof_count (space_on x.mesh es) C)
-      × (dofs ≡ dof_list (space_on x.mesh es) C)
-      × (owners ≡ owner_list (space_on x.mesh es) C ++ drop (3 * dof_count (space_on x.mesh es) C) before)
-  numbering_gives es before h = rw (mesh_fine ok).kinds_long at h
-
-  -- what `cell_colouring` asks
   pub colourable : (colours : List ℕ) → length colours ≡ C → Colourable (sizes_of C x.mesh.vertices x.mesh.edges) x.mesh.kinds x.mesh.cell_vertices x.mesh.cell_edges colours
   colourable colours e =
       let m = mesh_fine ok in
@@ -114,38 +92,26 @@ module _ {x : Planning} {l : Lists} (ok : Accepted x l) where
       }
 
   -- what the work list asks
-  counts : Countable (edgeless x.mesh) x.batch (colour_list (test_space x) C) (colour_list (trial_space x) C)
-  unfolding corners
-  counts =
-      let c = counted ok in
-      record {
-        mesh = record { kinds = c.mesh.kinds; long = c.mesh.long; vertices = c.mesh.vertices; patterns = c.mesh.patterns };
-        batch = c.batch;
-        test_colours = c.test_colours;
-        trial_colours = c.trial_colours;
-      }
-
-  pub work_ready : {B tn rn : ℕ} {ts rs : List ℕ} (work : List ℕ) → B ≡ x.batch → ts ≡ colour_list (test_space x) C → rs ≡ colour_list (trial_space x) C
-      → tn ≡ colour_count (colour_list (test_space x) C) → rn ≡ colour_count (colour_list (trial_space x) C) → length work ≡ 3 * (C * C)
-      → WorkReady (edgeless x.mesh) B ts tn rs rn work
+  pub work_ready : {B tn rn td rd : ℕ} {ts rs d d' o o' b b' : List ℕ} (work : List ℕ) → B ≡ x.batch → SideWritten (test_space x) C b d o ts td tn → SideWritten (trial_space x) C b' d' o' rs rd rn
+      → length work ≡ 3 * (C * C) → WorkReady x.mesh B ts tn rs rn work
   unfolding batch_right corners
-  work_ready work b t r tn rn long =
+  work_ready work b t r long =
       let m = mesh_fine ok in
-      rw (b, t, r)
+      rw (b, t.colours, r.colours)
       (record {
-        counts = counts;
+        counts = counted ok;
         shaped = vertices_shaped x.mesh m;
         long = m.kinds_long;
         below = m.vertex_below;
         apart = m.apart;
-        patterns = edgeless_patterns x.mesh ok.patterns;
+        patterns = ok.patterns;
         cells = m.few_cells;
         top = m.few_vertices;
         batch = omega (arith, within_high 1 most_batch x.batch ok.batch);
-        test = tn;
-        trial = rn;
-        test_few_holds = omega (arith, tn, count_at_most (test_space x) C, m.few_cells);
-        trial_few_holds = omega (arith, rn, count_at_most (trial_space x) C, m.few_cells);
+        test = t.colour_total;
+        trial = r.colour_total;
+        test_few_holds = omega (arith, t.colour_total, count_at_most (test_space x) C, m.few_cells);
+        trial_few_holds = omega (arith, r.colour_total, count_at_most (trial_space x) C, m.few_cells);
         room = long;
       })
 
@@ -155,7 +121,7 @@ module _ {x : Planning} {l : Lists} (ok : Accepted x l) where
 
   -- ---- with the numbers and lists that the code has in hand
 
-  module _ {B distant touching : ℕ} {pairs : KindPairs} {ts rs work : List ℕ} (w : Written (edgeless x.mesh) B ts rs work distant touching pairs) where
+  module _ {B distant touching : ℕ} {pairs : KindPairs} {ts rs work : List ℕ} (w : Written x.mesh B ts rs work distant touching pairs) where
     pub numbers_are : {triangles quads rows columns : ℕ} → triangles ≡ cells_of x.mesh.kinds 3 → quads ≡ cells_of x.mesh.kinds 4
         → rows ≡ dof_count (test_space x) C → columns ≡ dof_count (trial_space x) C
         → record {
@@ -174,32 +140,27 @@ module _ {x : Planning} {l : Lists} (ok : Accepted x l) where
           integrand = x.integrand;
         } ≡ plan_numbers x
     unfolding plan_numbers
-    numbers_are t q r k =
-        let e = edgeless_pairs x.mesh in
-        rw (w.far ∙ e.0, w.near ∙ e.1, w.kinds ∙ e.2, t, q, r, k)
+    numbers_are t q r k = rw (w.far, w.near, w.kinds, t, q, r, k)
 
-    pub lists_are : {td rd to ro : List ℕ} → B ≡ x.batch → td ≡ dof_list (test_space x) C → rd ≡ dof_list (trial_space x) C
-        → ts ≡ colour_list (test_space x) C → rs ≡ colour_list (trial_space x) C
-        → to ≡ owner_list (test_space x) C ++ drop (3 * dof_count (test_space x) C) l.test_owners
-        → ro ≡ owner_list (trial_space x) C ++ drop (3 * dof_count (trial_space x) C) l.trial_owners
-        → lists_of td rd ts rs to ro work ≡ written_lists x l
+    pub lists_are : {td rd to ro : List ℕ} {tn rn tc rc : ℕ} → B ≡ x.batch → SideWritten (test_space x) C l.test_owners td to ts tn tc
+        → SideWritten (trial_space x) C l.trial_owners rd ro rs rn rc → lists_of td rd ts rs to ro work ≡ written_lists x l
     unfolding written_lists
-    lists_are b td rd t r to ro =
+    lists_are b t r =
         let work_is : work ≡ flat (work_list x.mesh x.batch (colour_list (test_space x) C) (colour_list (trial_space x) C)) =
-        w.list ∙ rw (t, r, b) refl ∙ ap flat (edgeless_work x.mesh x.batch _ _) in
-        rw (td, rd, t, r, to, ro, work_is)
+        w.list ∙ rw (t.colours, r.colours, b) refl in
+        rw (t.dofs, r.dofs, t.colours, r.colours, t.owners, r.owners, work_is)
 
 -- ---- the two ways the call ends
 
-pub plan_refused : (x : Planning) (l : Lists) (v : ℕ) → v ≡ plan_refusal x l → (v ≡ 0 → ⊥) → (refused v ≡ plan x l) × (l ≡ plan_lists x l)
+pub plan_refused : (x : Planning) (l : Lists) (v : Refusal) → number_of v ≡ plan_refusal x l → (refused (number_of v) ≡ plan x l) × (l ≡ plan_lists x l)
 unfolding plan plan_lists
-plan_refused x l v e h = rw (← e) (go v h)
+plan_refused x l v e = rw (← e) (go (number_of v) (number_nonzero v))
   where
     go : (v : ℕ) → (v ≡ 0 → ⊥) → (refused v ≡ plan_answer v (plan_numbers x)) × (l ≡ unless_refused v (written_lists x l) l)
     go zero h = absurd (h refl)
     go (suc v) h = (refl, refl)
 
-pub plan_ready : (x : Planning) (l l' : Lists) (r : PlanNumbers) → plan_refusal x l ≡ 0 → r ≡ plan_numbers x → l' ≡ written_lists x l
+pub plan_ready : (x : Planning) (l : Lists) {l' : Lists} {r : PlanNumbers} → 0 ≡ plan_refusal x l → r ≡ plan_numbers x → l' ≡ written_lists x l
     → (ready r ≡ plan x l) × (l' ≡ plan_lists x l)
 unfolding plan plan_lists
-plan_ready x l l' r e n w = rw (e, n, w) (refl, refl)
+plan_ready x l e n w = rw (← e, n, w) (refl, refl)

@@ -47,11 +47,6 @@ pub record Ready (m : Mesh) (B : ℕ) (ts : List ℕ) (tn : ℕ) (rs : List ℕ)
   pub trial_few_holds : rn ≤ most_cells
   pub room : length work ≡ width * (m.cells * m.cells)
 
--- the lists of the rows and of the keys
-pub record Scratch (C : ℕ) (rows keys : List ℕ) : Type 0 where
-  pub rows_long : length rows ≡ 4 * C
-  pub keys_long : length keys ≡ C
-
 -- the lists in which the cells are grouped by kind and colour
 pub record Grouping (C n : ℕ) (order ends : List ℕ) : Type 0 where
   pub cells : length order ≡ C
@@ -124,40 +119,60 @@ four : {a b c d a' b' c' d' : ℕ} → a ≡ a' → b ≡ b' → c ≡ c' → d 
     (record { triangle_triangle = a'; triangle_quad = b'; quad_triangle = c'; quad_quad = d' })
 four e f g h = rw (e, f, g, h)
 
-module _ {m : Mesh} {B : ℕ} {ts : List ℕ} {tn : ℕ} {rs : List ℕ} {rn : ℕ} {work : List ℕ} (r : Ready m B ts tn rs rn work) where
-  -- the keys of one side
-  module _ (cs : List ℕ) {count : ℕ} (long : length cs ≡ m.cells) (e : count ≡ colour_count cs) (few : count ≤ most_cells) where
-    pub keyable : {keys : List ℕ} → length keys ≡ m.cells → Keyable m.kinds cs count keys
-    keyable k =
+-- one side: the cells and their colours
+pub record Side (m : Mesh) (cs : List ℕ) (count : ℕ) : Type 0 where
+  pub shaped : Shaped m.kinds m.cell_vertices
+  pub kinds_long : length m.kinds ≡ m.cells
+  pub cells : m.cells ≤ most_cells
+  pub long : length cs ≡ m.cells
+  pub count_is : count ≡ colour_count cs
+  pub few : count ≤ most_cells
+
+-- its cells stand by kind and colour, and each of them has a row in a list of rows
+pub record SideGroups (m : Mesh) (cs order ends : List ℕ) : Type 0 where
+  pub by_colour : ByColour m cs order ends
+  pub cut : (rows : List ℕ) → length rows ≡ 4 * m.cells → Cut rows order ends
+
+module _ {m : Mesh} {cs : List ℕ} {count : ℕ} (s : Side m cs count) where
+  pub keyable : {keys : List ℕ} → length keys ≡ m.cells → Keyable m.kinds cs count keys
+  keyable k =
+      record {
+        colours = s.long ∙ sym s.kinds_long;
+        places = k ∙ sym s.kinds_long;
+        few = λ i h. omega (arith, colour_below cs i (omega (arith, s.long, s.kinds_long)), s.count_is);
+        most = s.few;
+      }
+
+  module _ (keys : List ℕ) (size : length keys ≡ m.cells) (written : (i : ℕ) → i < length m.kinds → get_or keys i 0 ≡ kind_key count m.kinds cs i) where
+    by_kind : ByKind keys m.cells count m.kinds cs
+    by_kind =
         record {
-          colours = long ∙ sym r.long;
-          places = k ∙ sym r.long;
-          few = λ i h. omega (arith, colour_below cs i (omega (arith, long, r.long)), e);
-          most = few;
+          size = size;
+          kinds = λ i h. s.shaped.kinds i (omega (arith, s.kinds_long));
+          few = λ i h. omega (arith, colour_below cs i (omega (arith, s.long)), s.count_is);
+          key = λ i h. written i (omega (arith, s.kinds_long));
         }
 
-    module _ (keys : List ℕ) (size : length keys ≡ m.cells) (written : (i : ℕ) → i < length m.kinds → get_or keys i 0 ≡ kind_key count m.kinds cs i) where
-      by_kind : ByKind keys m.cells count m.kinds cs
-      by_kind =
-          record {
-            size = size;
-            kinds = λ i h. r.shaped.kinds i (omega (arith, r.long));
-            few = λ i h. omega (arith, colour_below cs i (omega (arith, long)), e);
-            key = λ i h. written i (omega (arith, r.long));
-          }
+    -- each key has a group
+    pub keys_below : {order ends : List ℕ} → Grouping m.cells count order ends → Below keys (length ends)
+    keys_below g = subst (Below keys) (sym g.groups) (kind_keys_below by_kind)
 
-      -- each key has a group
-      pub keys_below : {order ends : List ℕ} → Grouping m.cells count order ends → Below keys (length ends)
-      keys_below g = subst (Below keys) (sym g.groups) (kind_keys_below by_kind)
+    -- so the cells stand by kind and colour
+    pub side_groups : {order ends order' ends' : List ℕ} → Grouping m.cells count order ends → Grouped order' ends' (length ends) (cells_with keys 1) → SideGroups m cs order' ends'
+    side_groups {order' = order'} {ends' = ends'} g h =
+        record {
+          by_colour =
+              by_colour keys m cs (subst (λ (n : ℕ). ByKind keys m.cells n m.kinds cs) s.count_is by_kind)
+              (subst (λ (n : ℕ). Grouped order' ends' n (cells_with keys 1)) (g.groups ∙ ap (λ (n : ℕ). 2 * n) s.count_is) h);
+          cut = λ rows e. by_colour_cut keys h rows (omega (arith, e, size));
+        }
 
-      -- so the cells stand by kind and colour
-      pub laid : {order ends order' ends' : List ℕ} → Grouping m.cells count order ends → Grouped order' ends' (length ends) (cells_with keys 1) → ByColour m cs order' ends'
-      laid {order' = order'} {ends' = ends'} g h =
-          by_colour keys m cs (subst (λ (n : ℕ). ByKind keys m.cells n m.kinds cs) e by_kind)
-          (subst (λ (n : ℕ). Grouped order' ends' n (cells_with keys 1)) (g.groups ∙ ap (λ (n : ℕ). 2 * n) e) h)
+module _ {m : Mesh} {B : ℕ} {ts : List ℕ} {tn : ℕ} {rs : List ℕ} {rn : ℕ} {work : List ℕ} (r : Ready m B ts tn rs rn work) where
+  pub test_side : Side m ts tn
+  test_side = record { shaped = r.shaped; kinds_long = r.long; cells = r.cells; long = r.counts.test_colours; count_is = r.test; few = r.test_few_holds }
 
-      pub cut : {rows order' ends' : List ℕ} {n : ℕ} → length rows ≡ 4 * m.cells → Grouped order' ends' n (cells_with keys 1) → Cut rows order' ends'
-      cut {rows} h g = by_colour_cut keys g rows (omega (arith, h, size))
+  pub trial_side : Side m rs rn
+  trial_side = record { shaped = r.shaped; kinds_long = r.long; cells = r.cells; long = r.counts.trial_colours; count_is = r.trial; few = r.trial_few_holds }
 
   -- the rows
   module _ {rows : List ℕ} (are : rows ≡ rows_of m.vertices m.kinds m.cell_vertices (length m.kinds)) where
@@ -244,9 +259,6 @@ module _ {m : Mesh} {B : ℕ} {ts : List ℕ} {tn : ℕ} {rs : List ℕ} {rn : �
               }
 
 -- fronts of lists of zeros
-pub scratch_lists : (C : ℕ) → C ≤ most_cells → Scratch C (take (4 * C) (replicate (4 * most_cells) 0)) (take C (replicate most_cells 0))
-scratch_lists C c = record { rows_long = scratch (4 * C) (4 * most_cells) (omega arith); keys_long = scratch C most_cells c }
-
 pub grouping_lists : (C n : ℕ) → C ≤ most_cells → n ≤ most_cells → Grouping C n (take C (replicate most_cells 0)) (take (2 * n) (replicate (2 * most_cells) 0))
 grouping_lists C n c h =
     record { cells = scratch C most_cells c; groups = scratch (2 * n) (2 * most_cells) (omega arith); zeros = scratch_zeros (2 * n) (2 * most_cells) (omega arith) }

@@ -1,19 +1,25 @@
 // Checks 1, 26, 1 and 2 to 8, in this order.
-ghost use Rattle.std.specs.Prelude.{◌≡◌, true, [], ◌+◌, ◌*◌, ◌≤◌, length};
-ghost use Rattle.grid.specs.Mesh.{most_cells, mesh_with};
+ghost use Rattle.std.specs.Prelude.{◌≡◌, true, ◌+◌, ◌*◌, ◌≤◌, length};
+ghost use Rattle.grid.specs.Lent.{mesh_lent};
+ghost use Rattle.grid.specs.Mesh.{most_cells};
+ghost use Rattle.grid.specs.Facts.{Fine};
 ghost use Rattle.function.specs.Elements.{most_dim, cell_dim, elements_right};
 ghost use Rattle.cell_pairs.specs.Patterns.{patterns_right};
-ghost use Rattle.plans.specs.Planning.{plan_refusal, lists_of};
+ghost use Rattle.refusals.specs.Numbers.{told};
+ghost use Rattle.plans.specs.Planning.{batch_right, plan_refusal};
+ghost use Rattle.plans.specs.Lent.{lists_lent};
 ghost use Rattle.planning.specs.Arguments.{planning_with};
-ghost use Rattle.planning.specs.Facts.{Rowable, lengths_by};
+ghost use Rattle.planning.specs.Facts.{lengths_by};
 
 use crate::Assembly;
 use cell_pairs::WIDTH;
 use cell_patterns::patterns_right;
 use function::{Elements, dims_right};
-use grid::{MOST_CELLS, Sizes, count_kind, mesh_refusal, write_rows};
+use grid::{MOST_CELLS, Mesh, Rows, count_kind, mesh_refusal, write_rows};
 use integrands::integrand_right;
 use numbers::wide;
+use plans::PlanLists;
+use refusals::Refusal;
 
 // The largest batch.
 const MOST_BATCH: u32 = 65535;
@@ -26,106 +32,68 @@ fn dof_places(triangles: u32, quads: u32, elements: Elements) -> usize
     wide(triangles) * elements.dim(3) + wide(quads) * elements.dim(4)
 }
 
+// Check 5.
+fn batch_right(batch: u32) -> bool
+    ensures { result ≡ batch_right batch }
+{
+    (1..=MOST_BATCH).contains(&batch)
+}
+
 // Check 8, of so many cells, which have so many places of DOFs on either side.
-fn lengths_right(
-    cells: u32,
-    rows: usize,
-    columns: usize,
-    test_dofs: &[u32],
-    trial_dofs: &[u32],
-    test_colours: &[u32],
-    trial_colours: &[u32],
-    test_owners: &[u32],
-    trial_owners: &[u32],
-    work: &[u32],
-) -> bool
+fn lengths_right(cells: u32, rows: usize, columns: usize, lists: &PlanLists) -> bool
     requires { (cells ≤ most_cells) × (rows ≤ most_cells * most_dim) × (columns ≤ most_cells * most_dim) }
-    ensures { result ≡ lengths_by cells rows columns (lists_of test_dofs.now trial_dofs.now test_colours.now trial_colours.now test_owners.now trial_owners.now work.now) }
+    ensures { result ≡ lengths_by cells rows columns (lists_lent lists.now) }
 {
     let c = wide(cells);
-    let pairs = c * c;
-    (test_dofs.len() == rows)
-        & (trial_dofs.len() == columns)
-        & (test_colours.len() == c)
-        & (trial_colours.len() == c)
-        & (test_owners.len() == 3 * rows)
-        & (trial_owners.len() == 3 * columns)
-        & (work.len() == WIDTH * pairs)
+    (lists.test_dofs.len() == rows)
+        & (lists.trial_dofs.len() == columns)
+        & (lists.test_colours.len() == c)
+        & (lists.trial_colours.len() == c)
+        & (lists.test_owners.len() == 3 * rows)
+        & (lists.trial_owners.len() == 3 * columns)
+        & (lists.work.len() == WIDTH * (c * c))
 }
 
 // Check 7, by way of the rows of the cells.
-fn rows_right(sizes: Sizes, kinds: &[u8], cell_vertices: &[u32], rows: &mut [u32]) -> bool
-    requires { Rowable sizes kinds.now cell_vertices.now × (length rows.old ≡ 4 * sizes.cells) }
-    ensures { result ≡ patterns_right (mesh_with sizes kinds.now cell_vertices.now []) }
+fn cells_right(mesh: Mesh) -> bool
+    requires { Fine (mesh_lent mesh) }
+    ensures { result ≡ patterns_right (mesh_lent mesh.entry) }
 {
-    write_rows(kinds, cell_vertices, sizes.vertices, rows);
-    patterns_right(wide(sizes.cells), wide(sizes.vertices), rows)
-}
-
-// Check 7. The rows are alive here alone.
-fn cells_right(sizes: Sizes, kinds: &[u8], cell_vertices: &[u32]) -> bool
-    requires { Rowable sizes kinds.now cell_vertices.now }
-    ensures { result ≡ patterns_right (mesh_with sizes kinds.now cell_vertices.now []) }
-{
-    let n = 4 * wide(sizes.cells);
     let mut rows = [0u32; 4 * MOST_CELLS];
-    rows_right(sizes, kinds, cell_vertices, &mut rows[..n])
+    let rows = &mut rows[..4 * wide(mesh.sizes.cells)];
+    write_rows(mesh.kinds, mesh.cell_vertices, mesh.sizes.vertices, rows);
+    patterns_right(
+        wide(mesh.sizes.cells),
+        Rows {
+            rows,
+            none: mesh.sizes.vertices,
+        },
+    )
 }
 
-// The first check that turns planning down, or 0. It writes nothing.
-pub(crate) fn plan_refusal(
-    sizes: Sizes,
-    kinds: &[u8],
-    cell_vertices: &[u32],
-    cell_edges: &[u32],
-    assembly: Assembly,
-    test_dofs: &[u32],
-    trial_dofs: &[u32],
-    test_colours: &[u32],
-    trial_colours: &[u32],
-    test_owners: &[u32],
-    trial_owners: &[u32],
-    work: &[u32],
-) -> u32
-    ensures { result ≡ plan_refusal (planning_with (mesh_with sizes kinds.now cell_vertices.now cell_edges.now) assembly)
-        (lists_of test_dofs.now trial_dofs.now test_colours.now trial_colours.now test_owners.now trial_owners.now work.now) }
+// The first check that turns planning down, if any.
+pub(crate) fn plan_checked(mesh: Mesh, assembly: Assembly, lists: &PlanLists) -> Result<(), Refusal>
+    ensures { told result ≡ plan_refusal (planning_with (mesh_lent mesh.entry) assembly) (lists_lent lists.now) }
 {
-    let test = assembly.test;
-    let trial = assembly.trial;
-    let integrand = assembly.integrand;
-    let v = mesh_refusal(sizes, kinds, cell_vertices, cell_edges);
-    if v != 0 {
-        return v;
+    mesh_refusal(mesh)?;
+    let triangles = count_kind(mesh.kinds, 3);
+    let quads = count_kind(mesh.kinds, 4);
+    if !dims_right(triangles, quads, assembly.test, assembly.trial) {
+        return Err(Refusal::Dim);
     }
-    let triangles = count_kind(kinds, 3);
-    let quads = count_kind(kinds, 4);
-    if !dims_right(triangles, quads, test, trial) {
-        return 4;
+    if !batch_right(assembly.batch) {
+        return Err(Refusal::Batch);
     }
-    if !((1 <= assembly.batch) & (assembly.batch <= MOST_BATCH)) {
-        return 5;
+    if !integrand_right(assembly.integrand) {
+        return Err(Refusal::Integrand);
     }
-    if !integrand_right(integrand) {
-        return 6;
+    if !cells_right(mesh) {
+        return Err(Refusal::Pattern);
     }
-    if !cells_right(sizes, kinds, cell_vertices) {
-        return 7;
+    let rows = dof_places(triangles, quads, assembly.test);
+    let columns = dof_places(triangles, quads, assembly.trial);
+    if !lengths_right(mesh.sizes.cells, rows, columns, lists) {
+        return Err(Refusal::ListLength);
     }
-    let rows = dof_places(triangles, quads, test);
-    let columns = dof_places(triangles, quads, trial);
-    if !lengths_right(
-        sizes.cells,
-        rows,
-        columns,
-        test_dofs,
-        trial_dofs,
-        test_colours,
-        trial_colours,
-        test_owners,
-        trial_owners,
-        work,
-    ) {
-        return 8;
-    }
-    0
+    Ok(())
 }

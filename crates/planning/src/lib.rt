@@ -2,25 +2,28 @@
 #![tactic(auto)]
 
 mod checks;
-mod colours;
 mod work_list;
 
-ghost use Rattle.std.specs.Prelude.{◌≡◌};
-ghost use Rattle.plans.specs.Planning.{plan, plan_numbers, plan_lists, written_lists};
+ghost use Rattle.std.specs.Prelude.{◌≡◌, ◌*◌, length};
+ghost use Rattle.grid.specs.Lent.{mesh_lent};
+ghost use Rattle.function.specs.Lent.{space_lent};
+ghost use Rattle.function.specs.Colours.{Colourable};
+ghost use Rattle.dof_numbering.specs.Walk.{Sized};
+ghost use Rattle.plans.specs.Planning.{plan, plan_numbers, plan_lists, written_lists, places_on};
 ghost use Rattle.plans.specs.Accepted.{Accepted};
-ghost use Rattle.plans.specs.Planning.{lists_of};
-ghost use Rattle.grid.specs.Mesh.{mesh_with};
+ghost use Rattle.plans.specs.Lent.{lists_lent, SameLists, planned_of};
 ghost use Rattle.planning.specs.Arguments.{planning_with};
+ghost use Rattle.planning.specs.Plan.{SideWritten};
 
-use checks::plan_refusal;
-use colours::write_colours;
+use checks::plan_checked;
 use dof_numbering::assign_dofs;
-use function::Elements;
-use grid::{Sizes, count_kind};
+use function::{Elements, cell_colouring};
+use grid::{Mesh, count_kind};
 use integrands::Integrand;
 use numbers::wide;
-use plans::{PlanNumbers, Planned};
-use work_list::write_work;
+use plans::{PlanLists, PlanNumbers};
+use refusals::Refusal;
+use work_list::{Coloured, write_work};
 
 // What is to be assembled on a mesh: the elements of both sides, the batch size and the integrand.
 #[derive(Clone, Copy)]
@@ -31,139 +34,88 @@ pub struct Assembly {
     pub integrand: Integrand,
 }
 
-// Writes the seven lists of a planning that no check turns down.
-fn write_plan(
-    sizes: Sizes,
-    kinds: &[u8],
-    cell_vertices: &[u32],
-    cell_edges: &[u32],
-    assembly: Assembly,
-    test_dofs: &mut [u32],
-    trial_dofs: &mut [u32],
-    test_colours: &mut [u32],
-    trial_colours: &mut [u32],
-    test_owners: &mut [u32],
-    trial_owners: &mut [u32],
-    work: &mut [u32],
-) -> PlanNumbers
-    requires { Accepted (planning_with (mesh_with sizes kinds.now cell_vertices.now cell_edges.now) assembly)
-        (lists_of test_dofs.old trial_dofs.old test_colours.old trial_colours.old test_owners.old trial_owners.old work.old) }
-    ensures value { result ≡ plan_numbers (planning_with (mesh_with sizes kinds.now cell_vertices.now cell_edges.now) assembly) }
-    ensures work_after { lists_of test_dofs.new trial_dofs.new test_colours.new trial_colours.new test_owners.new trial_owners.new work.new
-        ≡ written_lists (planning_with (mesh_with sizes kinds.now cell_vertices.now cell_edges.now) assembly)
-        (lists_of test_dofs.old trial_dofs.old test_colours.old trial_colours.old test_owners.old trial_owners.old work.old) }
+// How many DOFs and how many colours there are on one side.
+#[derive(Clone, Copy)]
+struct SideCounts {
+    dofs: u32,
+    colours: u32,
+}
+
+// Writes the three lists of one side.
+fn write_side(
+    mesh: Mesh,
+    elements: Elements,
+    dofs: &mut [u32],
+    owners: &mut [u32],
+    colours: &mut [u32],
+) -> SideCounts
+    requires sized { Sized (space_lent mesh elements) mesh.sizes.cells }
+    requires cells { length mesh.kinds.now ≡ mesh.sizes.cells }
+    requires places { (length dofs.old ≡ places_on (mesh_lent mesh) elements) × (length owners.old ≡ 3 * places_on (mesh_lent mesh) elements) }
+    requires colourable { Colourable mesh.sizes mesh.kinds.now mesh.cell_vertices.now mesh.cell_edges.now colours.old }
+    ensures { SideWritten (space_lent mesh.entry elements) mesh.entry.sizes.cells owners.old dofs.new owners.new colours.new result.dofs result.colours }
 {
-    let test = assembly.test;
-    let trial = assembly.trial;
-    let integrand = assembly.integrand;
-    let rows = assign_dofs(
-        kinds,
-        cell_vertices,
-        cell_edges,
-        test,
-        test_dofs,
-        test_owners,
-    );
-    let columns = assign_dofs(
-        kinds,
-        cell_vertices,
-        cell_edges,
-        trial,
-        trial_dofs,
-        trial_owners,
-    );
-    let counts = write_colours(
-        sizes,
-        kinds,
-        cell_vertices,
-        cell_edges,
-        test,
-        trial,
-        test_colours,
-        trial_colours,
-    );
-    let written = write_work(
-        sizes,
-        kinds,
-        cell_vertices,
-        wide(assembly.batch),
-        test_colours,
-        counts.test,
-        trial_colours,
-        counts.trial,
-        work,
-    );
-    let triangles = count_kind(kinds, 3);
-    let quads = count_kind(kinds, 4);
-    let pairs = written.pairs;
-    PlanNumbers {
-        cells: sizes.cells,
-        vertices: sizes.vertices,
-        edges: sizes.edges,
-        triangles: triangles,
-        quads: quads,
-        touching: written.touching,
-        distant: written.distant,
-        pairs: pairs,
-        rows: rows,
-        columns: columns,
-        test: test,
-        trial: trial,
-        integrand: integrand,
+    SideCounts {
+        dofs: assign_dofs(mesh, elements, dofs, owners),
+        colours: cell_colouring(mesh, elements, colours),
     }
 }
 
-// Plans: checks 1, 26, 1 and 2 to 8 in this order, every check before the first write; then the seven lists and the numbers.
-pub fn plan(
-    sizes: Sizes,
-    kinds: &[u8],
-    cell_vertices: &[u32],
-    cell_edges: &[u32],
-    assembly: Assembly,
-    test_dofs: &mut [u32],
-    trial_dofs: &mut [u32],
-    test_colours: &mut [u32],
-    trial_colours: &mut [u32],
-    test_owners: &mut [u32],
-    trial_owners: &mut [u32],
-    work: &mut [u32],
-) -> Planned
-    ensures value { result ≡ plan (planning_with (mesh_with sizes kinds.now cell_vertices.now cell_edges.now) assembly)
-        (lists_of test_dofs.old trial_dofs.old test_colours.old trial_colours.old test_owners.old trial_owners.old work.old) }
-    ensures work_after { lists_of test_dofs.new trial_dofs.new test_colours.new trial_colours.new test_owners.new trial_owners.new work.new
-        ≡ plan_lists (planning_with (mesh_with sizes kinds.now cell_vertices.now cell_edges.now) assembly)
-        (lists_of test_dofs.old trial_dofs.old test_colours.old trial_colours.old test_owners.old trial_owners.old work.old) }
+// Writes the seven lists of a planning that no check turns down.
+fn write_plan(mesh: Mesh, assembly: Assembly, lists: &mut PlanLists) -> PlanNumbers
+    requires { Accepted (planning_with (mesh_lent mesh) assembly) (lists_lent lists.old) }
+    ensures value { result ≡ plan_numbers (planning_with (mesh_lent mesh.entry) assembly) }
+    ensures written { lists_lent lists.new ≡ written_lists (planning_with (mesh_lent mesh.entry) assembly) (lists_lent lists.old) }
+    ensures same { SameLists lists.old lists.new }
 {
-    let v = plan_refusal(
-        sizes,
-        kinds,
-        cell_vertices,
-        cell_edges,
-        assembly,
-        test_dofs,
+    let test_dofs = &mut *lists.test_dofs;
+    let trial_dofs = &mut *lists.trial_dofs;
+    let test_colours = &mut *lists.test_colours;
+    let trial_colours = &mut *lists.trial_colours;
+    let test_owners = &mut *lists.test_owners;
+    let trial_owners = &mut *lists.trial_owners;
+    let work = &mut *lists.work;
+    let test = write_side(mesh, assembly.test, test_dofs, test_owners, test_colours);
+    let trial = write_side(
+        mesh,
+        assembly.trial,
         trial_dofs,
-        test_colours,
-        trial_colours,
-        test_owners,
         trial_owners,
-        work,
+        trial_colours,
     );
-    if v != 0 {
-        return Planned::Refused(v);
+    let tests = Coloured {
+        colours: test_colours,
+        count: test.colours,
+    };
+    let trials = Coloured {
+        colours: trial_colours,
+        count: trial.colours,
+    };
+    let written = write_work(mesh, wide(assembly.batch), tests, trials, work);
+    PlanNumbers {
+        cells: mesh.sizes.cells,
+        vertices: mesh.sizes.vertices,
+        edges: mesh.sizes.edges,
+        triangles: count_kind(mesh.kinds, 3),
+        quads: count_kind(mesh.kinds, 4),
+        touching: written.touching,
+        distant: written.distant,
+        pairs: written.pairs,
+        rows: test.dofs,
+        columns: trial.dofs,
+        test: assembly.test,
+        trial: assembly.trial,
+        integrand: assembly.integrand,
     }
-    let numbers = write_plan(
-        sizes,
-        kinds,
-        cell_vertices,
-        cell_edges,
-        assembly,
-        test_dofs,
-        trial_dofs,
-        test_colours,
-        trial_colours,
-        test_owners,
-        trial_owners,
-        work,
-    );
-    Planned::Ready(numbers)
+}
+
+// Plans: checks 1, 26, 1 and 2 to 8 in this order, every check before the first write; then the seven lists and the numbers. A refused call leaves the lists as
+// they were.
+pub fn plan(mesh: Mesh, assembly: Assembly, lists: &mut PlanLists) -> Result<PlanNumbers, Refusal>
+    ensures value { planned_of result ≡ plan (planning_with (mesh_lent mesh.entry) assembly) (lists_lent lists.old) }
+    ensures written { lists_lent lists.new ≡ plan_lists (planning_with (mesh_lent mesh.entry) assembly) (lists_lent lists.old) }
+    ensures same { SameLists lists.old lists.new }
+{
+    plan_checked(mesh, assembly, lists)?;
+    Ok(write_plan(mesh, assembly, lists))
 }

@@ -1,14 +1,23 @@
 -- `planning::plan` meets its contract: a refusal writes nothing; where there is none, the lists are written and the numbers handed back. Assumes nothing.
-use mathlib.Core.Path.{sym, ◌∙◌}
+use Rattle.std.proofs.Common.{sym}
+use Rattle.std.proofs.lemmas.Result.{err_from_is_err_and}
 use Rattle.plans.specs.Accepted.{accepted}
 use Rattle.planning.specs.Plan.{plan_refused, plan_ready}
 use Rattle.planning.proofs.plan.Goals as goal
 
-pub returns-then-v-ne0 : goal.returns-then-v-ne0
-returns-then-v-ne0 c = record { value = (plan_refused _ _ _ c.plan_refusal-v.ensures c.if-v-ne0.true).0; work_after = (plan_refused _ _ _ c.plan_refusal-v.ensures c.if-v-ne0.true).1 }
+pub returns-in_err-plan_checked-clause-value : goal.returns-in_err-plan_checked-clause-value
+returns-in_err-plan_checked-clause-value c =
+    let p = err_from_is_err_and c.from_residual.result c.from_residual.ensures.1 in
+    rw (p.1, p.2) (plan_refused _ _ _ c.in_err-plan_checked.ensures).0
 
-pub write_plan-numbers-requires : goal.write_plan-numbers-requires
-write_plan-numbers-requires c = accepted _ _ (sym c.plan_refusal-v.ensures ∙ c.if-v-ne0.false)
+pub returns-in_err-plan_checked-clause-written : goal.returns-in_err-plan_checked-clause-written
+returns-in_err-plan_checked-clause-written c = (plan_refused _ _ _ c.in_err-plan_checked.ensures).1
 
-pub returns : goal.returns
-returns c = record { value = (plan_ready _ _ _ _ (sym c.plan_refusal-v.ensures ∙ c.if-v-ne0.false) c.write_plan-numbers.ensures.value c.write_plan-numbers.ensures.work_after).0; work_after = (plan_ready _ _ _ _ (sym c.plan_refusal-v.ensures ∙ c.if-v-ne0.false) c.write_plan-numbers.ensures.value c.write_plan-numbers.ensures.work_after).1 }
+pub write_plan-requires : goal.write_plan-requires
+write_plan-requires c = accepted _ _ (sym c.in_ok-plan_checked.ensures)
+
+pub returns-clause-value : goal.returns-clause-value
+returns-clause-value c = (plan_ready _ _ c.in_ok-plan_checked.ensures c.write_plan.ensures.value c.write_plan.ensures.written).0
+
+pub returns-clause-written : goal.returns-clause-written
+returns-clause-written c = (plan_ready _ _ c.in_ok-plan_checked.ensures c.write_plan.ensures.value c.write_plan.ensures.written).1

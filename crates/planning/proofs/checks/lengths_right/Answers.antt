@@ -4,8 +4,8 @@ use Rattle.lists.specs.Bool.{◌and◌, every}
 use Rattle.planning.specs.Facts.{pairs_few, lengths_by}
 use Rattle.planning.proofs.checks.lengths_right.Goals as goal
 
-pub overflow_mul-pairs : goal.overflow_mul-pairs
-overflow_mul-pairs c = rw c.wide-c.ensures (omega (arith, pairs_few _ c.requires.0))
+pub overflow_mul-result-4 : goal.overflow_mul-result-4
+overflow_mul-result-4 c = rw c.wide-c.ensures (omega (arith, pairs_few _ c.requires.0))
 
 pub overflow_mul-result-3 : goal.overflow_mul-result-3
 overflow_mul-result-3 c = rw c.wide-c.ensures (omega (arith, pairs_few _ c.requires.0))

@@ -1,29 +1,32 @@
--- `planning::work_list::write_work` meets its contract: the arrays are long enough, and their fronts have the lengths that `write_pairs` asks. Assumes nothing.
-use Prim.Native.Nat.{◌*◌}
-use native.Mathlib.Omega.{arith}
-use mathlib.Core.Path.{sym}
-use Rattle.grid.specs.Mesh.{most_cells}
-use Rattle.cells_by_key.specs.GroupsFacts.{scratch}
-use Rattle.planning.specs.Work.{scratch_lists, grouping_lists}
+-- `planning::work_list::write_work` meets its contract: the arrays are long enough, and each call has what it asks by the laws of `Work`. Assumes nothing.
+use Rattle.planning.specs.Work.{grouping_lists, touchable, distant_room, touching_room, ends_rise, all_written}
 use Rattle.planning.proofs.work_list.write_work.Goals as goal
 
-pub slice_bounds-write_pairs-end : goal.slice_bounds-write_pairs-end
-slice_bounds-write_pairs-end c = sym (scratch _ (4 * most_cells) (omega (arith, c.wide-cells.ensures, c.requires.cells)))
+pub group_cells-test_groups-requires-clause-grouping : goal.group_cells-test_groups-requires-clause-grouping
+group_cells-test_groups-requires-clause-grouping c = rw (c.wide-cells.ensures, c.wide.ensures) (grouping_lists _ _ c.requires.cells c.requires.test_few_holds)
 
-pub slice_bounds-write_pairs-end-2 : goal.slice_bounds-write_pairs-end-2
-slice_bounds-write_pairs-end-2 c = sym (scratch _ (most_cells) (omega (arith, c.wide-cells.ensures, c.requires.cells)))
+pub group_cells-trial_groups-requires-clause-grouping : goal.group_cells-trial_groups-requires-clause-grouping
+group_cells-trial_groups-requires-clause-grouping c = rw (c.wide-cells.ensures, c.wide-2.ensures) (grouping_lists _ _ c.requires.cells c.requires.trial_few_holds)
 
-pub slice_bounds-write_pairs-end-3 : goal.slice_bounds-write_pairs-end-3
-slice_bounds-write_pairs-end-3 c = sym (scratch _ (most_cells) (omega (arith, c.wide-cells.ensures, c.requires.cells)))
+pub write_distant-n-requires-clause-padded : goal.write_distant-n-requires-clause-padded
+write_distant-n-requires-clause-padded c = (touchable c.requires c.write_rows.ensures).padded
 
-pub slice_bounds-write_pairs-end-4 : goal.slice_bounds-write_pairs-end-4
-slice_bounds-write_pairs-end-4 c = sym (scratch _ (2 * most_cells) (omega (arith, c.wide-tests.ensures, c.requires.test_few_holds)))
+pub write_distant-n-requires-clause-room : goal.write_distant-n-requires-clause-room
+write_distant-n-requires-clause-room c = distant_room c.requires c.write_rows.ensures c.group_cells-test_groups.ensures.by_colour c.group_cells-trial_groups.ensures.by_colour
 
-pub slice_bounds-write_pairs-end-5 : goal.slice_bounds-write_pairs-end-5
-slice_bounds-write_pairs-end-5 c = sym (scratch _ (most_cells) (omega (arith, c.wide-cells.ensures, c.requires.cells)))
+pub write_touching-ends-requires-clause-touchable : goal.write_touching-ends-requires-clause-touchable
+write_touching-ends-requires-clause-touchable c = touchable c.requires c.write_rows.ensures
 
-pub slice_bounds-write_pairs-end-6 : goal.slice_bounds-write_pairs-end-6
-slice_bounds-write_pairs-end-6 c = sym (scratch _ (2 * most_cells) (omega (arith, c.wide-trials.ensures, c.requires.trial_few_holds)))
+pub write_touching-ends-requires-clause-room : goal.write_touching-ends-requires-clause-room
+write_touching-ends-requires-clause-room c =
+    rw c.wide-cells.ensures (touching_room c.requires c.write_rows.ensures c.group_cells-test_groups.ensures.by_colour c.group_cells-trial_groups.ensures.by_colour c.write_distant-n.ensures)
 
-pub write_pairs-requires : goal.write_pairs-requires
-write_pairs-requires c = rw (c.wide-cells.ensures, c.wide-tests.ensures, c.wide-trials.ensures) (record { ready = c.requires; scratch = scratch_lists _ c.requires.cells; grouping = grouping_lists _ _ c.requires.cells c.requires.test_few_holds; grouping_2 = grouping_lists _ _ c.requires.cells c.requires.trial_few_holds })
+pub counts_of-requires : goal.counts_of-requires
+counts_of-requires c =
+    ends_rise c.requires c.write_rows.ensures c.group_cells-test_groups.ensures.by_colour c.group_cells-trial_groups.ensures.by_colour c.write_distant-n.ensures
+    (rw c.wide-cells.ensures at c.write_touching-ends.ensures.1)
+
+pub returns : goal.returns
+returns c =
+    all_written c.requires c.write_rows.ensures c.group_cells-test_groups.ensures.by_colour c.group_cells-trial_groups.ensures.by_colour c.write_distant-n.ensures
+    (rw c.wide-cells.ensures at c.write_touching-ends.ensures.1) c.counts_of.ensures (rw c.wide-cells.ensures at c.write_touching-ends.ensures.0)
