@@ -67,9 +67,7 @@ fn write_owners(owners: &mut [u32], at: usize, dimension: u32, x: u32, m: u32)
 {
     for place in 0..m {
         let j = at + 3 * wide(place);
-        owners[j] = dimension;
-        owners[j + 1] = x;
-        owners[j + 2] = place;
+        owners[j..j + 3].copy_from_slice(&[dimension, x, place]);
     }
 }
 

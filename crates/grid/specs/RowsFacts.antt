@@ -132,6 +132,13 @@ module _ (none : ℕ) (rows : List ℕ) (i : ℕ) where
         rw k
         (three_long _ (cut 3 (omega arith)) ∙ rw (cut_at 3 0 (omega arith), cut_at 3 1 (omega arith), cut_at 3 2 (omega arith)) (sym (cell_three e)))
 
+    pub cut_row : take (4 * i + 4 - 4 * i) (drop (4 * i) rows) ≡ row rows i
+    cut_row =
+        let k : 4 * i + 4 - 4 * i ≡ 4 = omega arith in
+        rw k
+        (four_long _ (cut 4 (omega arith))
+        ∙ rw (cut_at 4 0 (omega arith), cut_at 4 1 (omega arith), cut_at 4 2 (omega arith), cut_at 4 3 (omega arith)))
+
     pub cut_four : (entity rows i 3 ≡ none → ⊥) → take (4 * i + 4 - 4 * i) (drop (4 * i) rows) ≡ cell_in none rows i
     cut_four e =
         let k : 4 * i + 4 - 4 * i ≡ 4 = omega arith in

@@ -7,10 +7,10 @@ use borrow.Author.Rules.{rules}
 use Rattle.grid.proofs.shape.quarters_are.Goals as goal
 
 pub loop-i-init : goal.loop-i-init
-loop-i-init c = (search rules, sym (all_none _))
+loop-i-init c = sym (all_none _)
 
 pub loop-i-preserved : goal.loop-i-preserved
-loop-i-preserved c = (search rules, quarters_more _ _ _ c.loop-i.invariant.1)
+loop-i-preserved c = quarters_more _ _ _ c.loop-i.invariant
 
 pub returns : goal.returns
-returns c = let e : c.loop-i.i ≡ c.args.n = omega arith in rw e at c.loop-i.invariant.1 ∙ quarters_all _ _
+returns c = let e : c.loop-i.i ≡ c.args.n = omega arith in rw e at c.loop-i.invariant ∙ quarters_all _ _

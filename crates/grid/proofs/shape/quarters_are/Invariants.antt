@@ -8,7 +8,4 @@ use Rattle.grid.specs.KindsFacts.{quarters}
 use Rattle.grid.proofs.shape.quarters_are.Given as goal
 
 abbrev pub invariant-loop-i : goal.invariant-loop-i
-invariant-loop-i l = (l.i ≤ l.n) × (l.same ≡ all l.i (quarters (λ k. eqb (get_or l.kinds k 0) l.kind) l.n))
-
-abbrev pub decreases-loop-i : goal.decreases-loop-i
-decreases-loop-i l = l.n - l.i
+invariant-loop-i l = l.same ≡ all l.i (quarters (λ k. eqb (get_or l.kinds k 0) l.kind) l.n)
