@@ -24,8 +24,7 @@ use Rattle.runs.specs.Runs.{EntryLists, entry_lists}
 use Rattle.runs.specs.CellDofs.{cell_long, cell_below}
 use Rattle.runs.specs.Machine.{Machine, machine_along, machine_of}
 use Rattle.runs.specs.Reading.{record_rows, record_columns, call_values, record_values}
-use Rattle.sparse_lists.specs.declared.Gathered.TheVariants.{Kept as kept}
-use Rattle.sparse_lists.specs.Sparse.{values_at, kept_of, SparseLists, in_front, entries_fit, lists_hold, sparse_refusal, sparse_rows, sparse_written}
+use Rattle.sparse_lists.specs.Sparse.{kept, values_at, kept_of, SparseLists, in_front, entries_fit, lists_hold, sparse_refusal, sparse_rows, sparse_written}
 use Rattle.sparse_lists.proofs.Laws.{same_kept, same_lists}
 use Rattle.sparse_lists.proofs.BlockFacts.{values_nil, values_append, values_local}
 use Rattle.sparse_lists.specs.Pairs.{pair_at, pairs_at}

@@ -6,9 +6,7 @@ use Rattle.lists.specs.Examples.{opened_lists}
 use Rattle.numbers.specs.Ranges.{all_below}
 use Rattle.runs.specs.Runs.{EntryLists, entry_lists}
 use Rattle.runs.specs.Reading.{plus_all}
-use Rattle.sparse_lists.specs.declared.Gathered.{Gathered}
-use Rattle.sparse_lists.specs.declared.Gathered.TheVariants.{Kept as kept, Refused as refused}
-use Rattle.sparse_lists.specs.Sparse.{stands, values_at, occurs, sum, row_columns, columns_of, values_of, starts_of, kept_of, SparseLists, sparse_lists, entries_fit, lists_hold, sparse_refusal, sparse_rows, sparse_written}
+use Rattle.sparse_lists.specs.Sparse.{Gathered, kept, refused, stands, values_at, occurs, sum, row_columns, columns_of, values_of, starts_of, kept_of, SparseLists, sparse_lists, entries_fit, lists_hold, sparse_refusal, sparse_rows, sparse_written}
 
 -- opens the definitions of this crate and those that it cites
 unfoldable opened : Unit {0}

@@ -10,8 +10,7 @@ use Rattle.plans.specs.Planning.{Planning}
 use Rattle.runs.specs.Calls.{Call, Progress}
 use Rattle.runs.specs.Machine.{machine_of}
 use Rattle.runs.specs.Reading.{taken, lent_to}
-use Rattle.sparse_lists.specs.declared.Gathered.TheVariants.{Kept as kept}
-use Rattle.sparse_lists.specs.Sparse.{values_at, kept_of, SparseLists, in_front, entries_fit, sparse_rows, sparse_written}
+use Rattle.sparse_lists.specs.Sparse.{kept, values_at, kept_of, SparseLists, in_front, entries_fit, sparse_rows, sparse_written}
 use Rattle.sparse_lists.specs.Pairs.{pairs_at}
 
 -- what the touching pairs of the mesh put at each row and column: pair after pair in work order, pair k from what accepted call k was lent
