@@ -21,7 +21,7 @@ use Rattle.cell_pairs.specs.WorkList.{work_list}
 use Rattle.cell_pairs.specs.WorkRecords.{Distant, Touching}
 use Rattle.cell_pairs.proofs.WorkRecordsFacts.{distant_each, touching_each}
 use Rattle.cell_pairs.proofs.Counting.{length_work}
-use Rattle.plans.specs.Planning.{Planned, ready, refused, Planning, Lists, lists_for, dof_places, places_on, elements_fit, batch_right, lengths_right, plan_refusal, plan_answer, plan, plan_lists, written_lists, work_records}
+use Rattle.plans.specs.Planning.{Planned, ready, refused, Planning, Lists, lists_for, lists_of, dof_places, places_on, elements_fit, batch_right, lengths_right, plan_refusal, plan_answer, plan, plan_lists, written_lists, work_records}
 use Rattle.plans.specs.declared.PlanNumbers.{PlanNumbers}
 use Rattle.plans.specs.Accepted.{accepted, counted, ready_is}
 use Rattle.planning.specs.declared.Assembly.{Assembly}
@@ -117,12 +117,20 @@ module _ {C n : ℕ} (count : n ≡ C) (few : C ≤ most_worklist_cells) where
 pub few_places : (C d : ℕ) → C ≤ most_worklist_cells → d ≤ most_dim → C * d ≤ most_worklist_cells * most_dim
 few_places C d h k = mul-le-mul h k
 
-pub few_pairs : (C : ℕ) → C ≤ most_worklist_cells → C * C ≤ most_worklist_cells * most_worklist_cells
+few_pairs : (C : ℕ) → C ≤ most_worklist_cells → C * C ≤ most_worklist_cells * most_worklist_cells
 few_pairs C h = mul-le-mul h h
 
 -- as many of m zeros are lent
-pub lent_length : (n m : ℕ) {k : ℕ} → n ≡ k → n ≤ m → length (take n (replicate {A = ℕ} m 0)) ≡ k
+lent_length : (n m : ℕ) {k : ℕ} → n ≡ k → n ≤ m → length (take n (replicate {A = ℕ} m 0)) ≡ k
 lent_length n m e h = length-take-le n (replicate m 0) (omega (arith, length-replicate {A = ℕ} m 0)) ∙ e
+
+-- the lists that are lent
+abbrev zeros_lent : ℕ → ℕ → ℕ → Lists
+zeros_lent C rows columns =
+    let front : ℕ → ℕ → List ℕ = λ n m. take n (replicate m 0) in
+    lists_of (front rows (most_worklist_cells * most_dim)) (front columns (most_worklist_cells * most_dim)) (front C most_worklist_cells) (front C most_worklist_cells)
+    (front (3 * rows) (3 * (most_worklist_cells * most_dim))) (front (3 * columns) (3 * (most_worklist_cells * most_dim)))
+    (front (3 * (C * C)) (3 * (most_worklist_cells * most_worklist_cells)))
 
 -- check 4 of one side of C triangles
 abbrev fits_triangles : ℕ → Elements → Bool
@@ -164,7 +172,7 @@ short_text s vertices edges a l e₁ e₂ e₃ e₄ e₅ e₆ e₇ =
         let r = short_places s.cells a.trial h.1 in
         sized_by x l (e₁ ∙ t) (e₂ ∙ r) e₃ e₄ (e₅ ∙ ap (λ (n : ℕ). 3 * n) t) (e₆ ∙ ap (λ (n : ℕ). 3 * n) r) e₇
 
-pub short_same : (s : Sizes) (vertices edges : List ℕ) (a : Assembly) (l : Lists) {kinds text : List ℕ} → kinds ≡ triangles s.cells
+short_same : (s : Sizes) (vertices edges : List ℕ) (a : Assembly) (l : Lists) {kinds text : List ℕ} → kinds ≡ triangles s.cells
     → text ≡ planned_text (planning_with (mesh_with s kinds vertices edges) a) l
     → length l.test_dofs ≡ s.cells * min most_dim (dim a.test.triangle)
     → length l.trial_dofs ≡ s.cells * min most_dim (dim a.trial.triangle)
@@ -173,8 +181,27 @@ pub short_same : (s : Sizes) (vertices edges : List ℕ) (a : Assembly) (l : Lis
     → length l.test_owners ≡ 3 * (s.cells * min most_dim (dim a.test.triangle))
     → length l.trial_owners ≡ 3 * (s.cells * min most_dim (dim a.trial.triangle))
     → length l.work ≡ 3 * (s.cells * s.cells)
-    → text ≡ right_text (planning_with (mesh_of s vertices edges) a)
-short_same s vertices edges a l k w e₁ e₂ e₃ e₄ e₅ e₆ e₇ = rw (short_text s vertices edges a l e₁ e₂ e₃ e₄ e₅ e₆ e₇) at (rw k at w)
+    → text ≡ right_text (planning_with (mesh_with s kinds vertices edges) a)
+short_same s vertices edges a l k same e₁ e₂ e₃ e₄ e₅ e₆ e₇ = rw k (rw (short_text s vertices edges a l e₁ e₂ e₃ e₄ e₅ e₆ e₇) at (rw k at same))
+
+-- so it is with the fronts of lists of zeros that have room for the most cells
+pub lent_same : (s : Sizes) (vertices edges : List ℕ) (a : Assembly) {kinds text : List ℕ} {rows columns : ℕ} → kinds ≡ triangles s.cells → s.cells ≤ most_worklist_cells
+    → (rows ≡ s.cells * min most_dim (dim a.test.triangle)) × (rows ≤ most_worklist_cells * most_dim)
+    → (columns ≡ s.cells * min most_dim (dim a.trial.triangle)) × (columns ≤ most_worklist_cells * most_dim)
+    → text ≡ planned_text (planning_with (mesh_with s kinds vertices edges) a) (zeros_lent s.cells rows columns)
+    → text ≡ right_text (planning_with (mesh_with s kinds vertices edges) a)
+lent_same s vertices edges a {rows = rows} {columns = columns} k few r c same =
+    let test_owners : 3 * rows ≤ 3 * (most_worklist_cells * most_dim) = omega (arith, r.1) in
+    let trial_owners : 3 * columns ≤ 3 * (most_worklist_cells * most_dim) = omega (arith, c.1) in
+    let work : 3 * (s.cells * s.cells) ≤ 3 * (most_worklist_cells * most_worklist_cells) = omega (arith, few_pairs s.cells few) in
+    short_same s vertices edges a (zeros_lent s.cells rows columns) k same
+    (lent_length _ _ r.0 r.1)
+    (lent_length _ _ c.0 c.1)
+    (lent_length _ _ refl few)
+    (lent_length _ _ refl few)
+    (lent_length _ _ (ap (λ (n : ℕ). 3 * n) r.0) test_owners)
+    (lent_length _ _ (ap (λ (n : ℕ). 3 * n) c.0) trial_owners)
+    (lent_length _ _ refl work)
 
 -- ---- what planning answers
 

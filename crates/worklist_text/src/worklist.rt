@@ -1,6 +1,7 @@
 // From the bytes of a job to the text that `worklist` prints.
 ghost use Rattle.std.specs.Prelude.{◌≡◌, ◌*◌, ◌≤◌, min, length, take};
-ghost use Rattle.grid.specs.Mesh.{mesh_of};
+ghost use Rattle.grid.specs.Mesh.{triangles};
+ghost use Rattle.grid.specs.Lent.{mesh_lent};
 ghost use Rattle.planning.specs.Arguments.{planning_with};
 ghost use Rattle.function.specs.Elements.{most_dim, dim};
 ghost use Rattle.job.specs.Job.{most_worklist_cells};
@@ -11,11 +12,11 @@ use crate::Text;
 use crate::text::{lines_text, refused_text};
 use cell_pairs::WIDTH;
 use function::{Element, Elements, MOST_DIM};
-use grid::Sizes;
+use grid::{Mesh, Sizes};
 use integrands::{Integrand, Term};
 use job::{JobNumbers, MOST_WORKLIST_CELLS, read_job};
 use planning::{Assembly, plan};
-use plans::Planned;
+use plans::PlanLists;
 
 // The most cells of a job, places of a DOF list, and pairs of cells. The lists of the most cells stand in arrays, since planning is lent its lists and nothing here
 // allocates.
@@ -40,15 +41,13 @@ fn dof_places(cells: u32, element: Element) -> usize
 }
 
 // The text of a planned mesh of triangles, with lists of the right lengths: the work list's lines, or what is refused.
-fn mesh_text(sizes: Sizes, cell_vertices: &[u32], cell_edges: &[u32], assembly: Assembly) -> Text
-    requires { sizes.cells ≤ most_worklist_cells }
-    ensures { result.bytes ≡ right_text (planning_with (mesh_of sizes cell_vertices.now cell_edges.now) assembly) }
+fn mesh_text(mesh: Mesh, assembly: Assembly) -> Text
+    requires { (mesh.sizes.cells ≤ most_worklist_cells) × (mesh.kinds.now ≡ triangles mesh.sizes.cells) }
+    ensures { result.bytes ≡ right_text (planning_with (mesh_lent mesh.entry) assembly) }
 {
-    let c = sizes.cells as usize;
-    let rows = dof_places(sizes.cells, assembly.test.triangle);
-    let columns = dof_places(sizes.cells, assembly.trial.triangle);
-    let pairs = c * c;
-    let kinds = [TRIANGLE; CELLS];
+    let cells = mesh.sizes.cells as usize;
+    let rows = dof_places(mesh.sizes.cells, assembly.test.triangle);
+    let columns = dof_places(mesh.sizes.cells, assembly.trial.triangle);
     let mut test_dofs = [0; DOFS];
     let mut trial_dofs = [0; DOFS];
     let mut test_colours = [0; CELLS];
@@ -56,24 +55,18 @@ fn mesh_text(sizes: Sizes, cell_vertices: &[u32], cell_edges: &[u32], assembly: 
     let mut test_owners = [0; 3 * DOFS];
     let mut trial_owners = [0; 3 * DOFS];
     let mut work = [0; WIDTH * PAIRS];
-    let work = &mut work[..WIDTH * pairs];
-    let planned = plan(
-        sizes,
-        &kinds[..c],
-        cell_vertices,
-        cell_edges,
-        assembly,
-        &mut test_dofs[..rows],
-        &mut trial_dofs[..columns],
-        &mut test_colours[..c],
-        &mut trial_colours[..c],
-        &mut test_owners[..3 * rows],
-        &mut trial_owners[..3 * columns],
-        work,
-    );
-    match planned {
-        Planned::Ready(_) => lines_text(work),
-        Planned::Refused(n) => refused_text(n),
+    let mut lists = PlanLists {
+        test_dofs: &mut test_dofs[..rows],
+        trial_dofs: &mut trial_dofs[..columns],
+        test_colours: &mut test_colours[..cells],
+        trial_colours: &mut trial_colours[..cells],
+        test_owners: &mut test_owners[..3 * rows],
+        trial_owners: &mut trial_owners[..3 * columns],
+        work: &mut work[..WIDTH * (cells * cells)],
+    };
+    match plan(mesh, assembly, &mut lists) {
+        Ok(_) => lines_text(lists.work),
+        Err(refusal) => refused_text(refusal.number()),
     }
 }
 
@@ -83,16 +76,17 @@ fn numbers_text(job: JobNumbers, vertex_list: &[u32], edge_list: &[u32]) -> Text
     requires room { (3 * most_worklist_cells ≤ length vertex_list.now) × (3 * most_worklist_cells ≤ length edge_list.now) }
     ensures { result.bytes ≡ right_text (numbers_planning job (take (3 * job.cells) vertex_list.now) (take (3 * job.cells) edge_list.now)) }
 {
-    let n = 3 * job.cells as usize;
-    let sizes = Sizes {
-        cells: job.cells,
-        vertices: job.vertices,
-        edges: job.edges,
-    };
-    let integrand = Integrand {
-        terms: 1,
-        first: Term::Bare(0),
-        second: Term::Bare(0),
+    let cells = job.cells as usize;
+    let kinds = [TRIANGLE; CELLS];
+    let mesh = Mesh {
+        sizes: Sizes {
+            cells: job.cells,
+            vertices: job.vertices,
+            edges: job.edges,
+        },
+        kinds: &kinds[..cells],
+        cell_vertices: &vertex_list[..3 * cells],
+        cell_edges: &edge_list[..3 * cells],
     };
     let assembly = Assembly {
         test: Elements {
@@ -104,9 +98,13 @@ fn numbers_text(job: JobNumbers, vertex_list: &[u32], edge_list: &[u32]) -> Text
             quad: job.trial,
         },
         batch: job.batch,
-        integrand,
+        integrand: Integrand {
+            terms: 1,
+            first: Term::Bare(0),
+            second: Term::Bare(0),
+        },
     };
-    mesh_text(sizes, &vertex_list[..n], &edge_list[..n], assembly)
+    mesh_text(mesh, assembly)
 }
 
 // What `worklist` prints for these bytes.
