@@ -27,7 +27,7 @@ pub struct WorkRecord {
     pub trial: u32,
 }
 
-// Record p of a work list.
+// Record p of a work list. The list is of numbers, since C reads it.
 pub fn record_at(work: &[u32], p: usize) -> WorkRecord
     requires { width * (p + 1) ≤ length work.now }
     ensures { result ≡ record_at work.now p }

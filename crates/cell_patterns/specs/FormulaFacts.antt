@@ -1,5 +1,5 @@
--- Laws of the formula as its number is found: where a block begins, the place inside the block; of the digits of shared
--- vertices; and of the row of the table where the formula points. Assumes nothing.
+-- Laws of the formula as its number is found: of the place inside a block; of the code of shared vertices; and of the row of the table where the formula points.
+-- Assumes nothing.
 use Rattle.std.specs.Prelude.{ℕ, zero, suc, ◌+◌, ◌*◌, ◌^◌, ◌<◌, ◌≤◌, ◌≡◌, refl, Bool, cond, List, [], ◌∷◌, ◌++◌, length, take, get_or, eqb}
 use Rattle.std.proofs.Common.{add-zero, mul-le-mul_right, arith, ◌∙◌}
 use Rattle.std.proofs.Math.Path.{sym, ap, subst}
@@ -18,27 +18,12 @@ use Rattle.cell_patterns.specs.declared.shared.SharedVertex.{SharedVertex}
 use Rattle.std.proofs.lemmas.List.{take_more, map-append, length-take}
 use Rattle.cell_patterns.specs.TableRows.{Decimal, row_same, first, rest, none, also}
 
--- ---- the block's start, by cases
-
-module _ (n k : ℕ) where
-  pub start_both : n ≡ 3 → k ≡ 3 → 0 ≡ block_start n k
-  start_both e f = rw (eq-eqb n 3 e, eq-eqb k 3 f)
-
-  pub start_test : n ≡ 3 → (k ≡ 3 → ⊥) → 28 ≡ block_start n k
-  start_test e f = rw (eq-eqb n 3 e, ne_eqb k 3 f)
-
-  pub start_trial : (n ≡ 3 → ⊥) → k ≡ 3 → 64 ≡ block_start n k
-  start_trial e f = rw (ne_eqb n 3 e, eq-eqb k 3 f)
-
-  pub start_neither : (n ≡ 3 → ⊥) → (k ≡ 3 → ⊥) → 100 ≡ block_start n k
-  start_neither e f = rw (ne_eqb n 3 e, ne_eqb k 3 f)
+-- ---- the place inside the block
 
 pub sixteen : (a b : ℕ) → a ≤ 4 → b ≤ 4 → a * b ≤ 16
 sixteen a b h k = omega (arith, mul-le-mul_right b h)
 
--- ---- the place inside the block
-
--- the place, by how many vertices are shared
+-- by how many vertices are shared
 abbrev pub vertex : List SharedVertex → ℕ → SharedVertex
 vertex vs i = get_or vs i (record { test = 0; trial = 0 })
 

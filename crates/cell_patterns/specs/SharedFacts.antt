@@ -11,7 +11,7 @@ use Rattle.std.proofs.lemmas.Bool.{eqb-false}
 use Rattle.std.proofs.Math.Dec.{ltb}
 use Rattle.lists.specs.Bool.{◌or◌, true≢false, cases}
 use Rattle.lists.specs.Bounded.{least, least_is, least_none, least_holds, least_before, lt_or_le, eq_or_ne}
-use Rattle.lists.specs.Range.{AllIn, all_in_append, range, when, flat_map_none, flat_map_range, flat_map_below, flat_map_nil, range_split}
+use Rattle.lists.specs.Range.{flat_map_pick, AllIn, all_in_append, range, when, flat_map_none, flat_map_range, flat_map_below, flat_map_nil, range_split}
 use Rattle.grid.specs.Cells.{distinct, share}
 use Rattle.grid.specs.CellsFacts.{has_place, has_at, share_which, share_at}
 use Rattle.grid.specs.Facts.{vertices_differ}
@@ -23,21 +23,6 @@ use Rattle.cell_patterns.specs.Shared.{Small, matches_in, one_at, IsPlace, place
 use Rattle.cell_patterns.specs.declared.shared.SharedVertex.{SharedVertex}
 
 -- ---- one place alone passes
-
--- a comprehension over 0..n of which turn c alone adds
-pub flat_map_pick : {B : Type 0} (g : ℕ → List B) (c n : ℕ) → c < n → flat_map (λ p. when (eqb p c) (g p)) (range n) ≡ g c
-flat_map_pick g c zero l = absurd (omega arith)
-flat_map_pick {B} g c (suc n) l =
-    rw (← add-one n) (flat_map_range (λ p. when (eqb p c) (g p)) n ∙ ⊎_elim here (λ h. earlier h (flat_map_pick g c n (omega arith))) (eq_or_ne n c))
-  where
-    here : n ≡ c → flat_map (λ p. when (eqb p c) (g p)) (range n) ++ when (eqb n c) (g n) ≡ g c
-    here e =
-        ap₂ (λ (x y : List B). x ++ y)
-        (flat_map_below _ (λ _. []) n (λ k h. ap (λ (b : Bool). when b (g k)) (ne_eqb k c (λ q. absurd (omega arith)))) ∙ flat_map_nil (λ _. []) (λ _. refl) (range n))
-        (ap (λ (b : Bool). when b (g n)) (eq-eqb n c e) ∙ ap g e)
-
-    earlier : (n ≡ c → ⊥) → flat_map (λ p. when (eqb p c) (g p)) (range n) ≡ g c → flat_map (λ p. when (eqb p c) (g p)) (range n) ++ when (eqb n c) (g n) ≡ g c
-    earlier h more = ap₂ (λ (x y : List B). x ++ y) more (ap (λ (b : Bool). when b (g n)) (ne_eqb n c h)) ∙ append-nil (g c)
 
 -- at most one number below n passes: it is the least
 pub flat_map_least : {B : Type 0} (f : ℕ → Bool) (g : ℕ → List B) (n : ℕ) → ((p q : ℕ) → p < n → q < n → f p ≡ true → f q ≡ true → p ≡ q)

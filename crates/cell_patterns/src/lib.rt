@@ -52,7 +52,7 @@ fn lower_of(counts: bool, x: usize, m: usize) -> usize
 }
 
 // The smallest vertex that cells i and j share; `none`, which is above all vertices, where they share none. It stands in the fourth place of a triangle too, and
-// is no lower than what is found before it.
+// is no lower than what is found before it. A number and not an Option: so each step is the lower of two, with no branch.
 pub fn smallest_shared(rows: Rows<'_>, i: usize, j: usize) -> usize
     requires { (4 * i + 4 ≤ length rows.rows.now) × (4 * j + 4 ≤ length rows.rows.now) }
     ensures { result ≡ smallest_in rows.entry.none rows.entry.rows.now i j }
@@ -131,7 +131,8 @@ fn sorted_right(rows: Rows<'_>, order: &mut [u32], ends: &mut [usize]) -> bool
     )
 }
 
-// Check 7: each ordered pair of cells that shares a vertex has a pattern of the table. The vertices of the cells are below `none`.
+// Check 7: each ordered pair of cells that shares a vertex has a pattern of the table. The vertices of the cells are below `none`. The lists have fixed sizes, since
+// nothing is allocated.
 pub fn patterns_right(cells: usize, rows: Rows<'_>) -> bool
     requires rows_len { (length rows.rows.now ≡ 4 * cells) × (cells ≤ most_cells) × (rows.none ≤ most_vertices) }
     requires below { Below rows.rows.now (rows.none + 1) }

@@ -85,16 +85,12 @@ fn code_of(n: u32, k: u32, shared: &[SharedVertex]) -> u64
 fn block_start(n: u32, k: u32) -> u32
     ensures { (result ≡ block_start n k) × (result ≤ 100) }
 {
-    if n == 3 {
-        if k == 3 {
-            return 0;
-        }
-        return 28;
+    match (n, k) {
+        (3, 3) => 0,
+        (3, _) => 28,
+        (_, 3) => 64,
+        _ => 100,
     }
-    if k == 3 {
-        return 64;
-    }
-    100
 }
 
 // The place inside the block of test kind n and trial kind k that the formula gives the shared vertices.

@@ -142,7 +142,8 @@ fn write_colours(
     next
 }
 
-// Each colour of the test cells of a kind, 0 for triangles and 1 for quads, against each colour of the trial cells of a kind.
+// Each colour of the test cells of a kind against each colour of the trial cells of a kind. A kind is 0, triangles, or 1, quads: the number of groups of which it
+// is so many halves on.
 fn write_kinds(
     rows: Rows<'_>,
     batch: usize,
