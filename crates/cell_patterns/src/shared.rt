@@ -36,21 +36,19 @@ fn place_in(cell: &[u32], x: u32) -> Option<usize>
     cell.iter().position(|&y| y == x)
 }
 
-// The shared vertices with one more, the vertex at trial place q, if it has a place in the test cell.
-fn with_vertex(shared: Shared, place: Option<usize>, q: usize) -> Shared
-    requires count_bound { (shared.count < 4) × (q < 4) }
+// Adds the vertex at trial place q, if it has a place in the test cell.
+fn add_vertex(shared: &mut Shared, place: Option<usize>, q: usize)
+    requires count_bound { (shared.old.count < 4) × (q < 4) }
     requires place_bound { IfSome place (λ p. p < 4) }
-    ensures { (take result.count result.list ≡ take shared.count shared.list ++ one_at place q) × (result.count ≡ shared.count + length (one_at place q)) }
+    ensures { (take shared.new.count shared.new.list ≡ take shared.old.count shared.old.list ++ one_at place q) × (shared.new.count ≡ shared.old.count + length (one_at place q)) }
 {
-    let mut more = shared;
     if let Some(p) = place {
-        more.list[shared.count] = SharedVertex {
+        shared.list[shared.count] = SharedVertex {
             test: p as u32,
             trial: q as u32,
         };
-        more.count = shared.count + 1;
+        shared.count += 1;
     }
-    more
 }
 
 // The shared vertices of two cells, trial places rising. The test cell has no vertex twice.
@@ -63,7 +61,7 @@ fn matches_of(test: &[u32], trial: &[u32]) -> Shared
         list: [SharedVertex { test: 0, trial: 0 }; 4],
     };
     for (q, &x) in trial.iter().enumerate() {
-        shared = with_vertex(shared, place_in(test, x), q);
+        add_vertex(&mut shared, place_in(test, x), q);
     }
     shared
 }

@@ -8,7 +8,7 @@ loop-q-init c = gathered_start _ _ _
 
 pub loop-q-preserved : goal.loop-q-preserved
 loop-q-preserved c =
-    gathered_turn c.loop-q.invariant (omega arith) c.requires _ _ _ c.place_in.ensures c.with_vertex-shared.ensures.0 c.with_vertex-shared.ensures.1
+    gathered_turn c.loop-q.invariant (omega arith) c.requires _ _ _ c.place_in.ensures c.add_vertex.ensures.0 c.add_vertex.ensures.1
 
 pub returns : goal.returns
 returns c =
