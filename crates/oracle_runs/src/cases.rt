@@ -1,7 +1,7 @@
 // A case: a mesh with elements, batch size and integrand, and what each pair is lent.
-use grid::Sizes;
+use lent_numbers::{DistantNumbers, Side, TouchingNumbers};
 use planning::Assembly;
-use recorded::{Head, PlanLengths, Recorded, Words};
+use recorded::{Head, MeshVecs, PlanLengths, Recorded, Words};
 use std::alloc::Global;
 use std::io;
 
@@ -70,31 +70,6 @@ impl Recorded for Places {
     }
 }
 
-/// The lists that a pair is lent.
-#[derive(Clone, Copy)]
-pub struct TouchingLists<'a> {
-    pub points: usize,
-    pub weights: &'a [f64],
-    pub test_table: &'a [f64],
-    pub trial_table: &'a [f64],
-    pub kernel: &'a [f64],
-    pub test_geometry: &'a [f64],
-    pub trial_geometry: &'a [f64],
-}
-
-#[derive(Clone, Copy)]
-pub struct DistantLists<'a> {
-    pub test_points: usize,
-    pub trial_points: usize,
-    pub test_weights: &'a [f64],
-    pub trial_weights: &'a [f64],
-    pub test_table: &'a [f64],
-    pub trial_table: &'a [f64],
-    pub kernel: &'a [f64],
-    pub test_geometry: &'a [f64],
-    pub trial_geometry: &'a [f64],
-}
-
 // The n numbers of a list from a place on; none where they are not there, which an add turns down.
 fn part(list: &[f64], place: usize, n: usize) -> &[f64] {
     list.get(place..)
@@ -103,8 +78,8 @@ fn part(list: &[f64], place: usize, n: usize) -> &[f64] {
 }
 
 impl<'a> Numbers<'a> {
-    fn touching(self, lengths: Touching, places: Places) -> TouchingLists<'a> {
-        TouchingLists {
+    fn touching(self, lengths: Touching, places: Places) -> TouchingNumbers<'a> {
+        TouchingNumbers {
             points: lengths.points,
             weights: part(self.pool, places.test_weights, lengths.weights),
             test_table: part(self.pool, places.test_table, lengths.test_table),
@@ -115,25 +90,28 @@ impl<'a> Numbers<'a> {
         }
     }
 
-    fn distant(self, lengths: Distant, places: Places) -> DistantLists<'a> {
-        DistantLists {
-            test_points: lengths.test_points,
-            trial_points: lengths.trial_points,
-            test_weights: part(self.pool, places.test_weights, lengths.test_weights),
-            trial_weights: part(self.pool, places.trial_weights, lengths.trial_weights),
-            test_table: part(self.pool, places.test_table, lengths.test_table),
-            trial_table: part(self.pool, places.trial_table, lengths.trial_table),
+    fn distant(self, lengths: Distant, places: Places) -> DistantNumbers<'a> {
+        DistantNumbers {
+            test: Side {
+                points: lengths.test_points,
+                weights: part(self.pool, places.test_weights, lengths.test_weights),
+                table: part(self.pool, places.test_table, lengths.test_table),
+                geometry: part(self.geometry, places.test_geometry, lengths.test_geometry),
+            },
+            trial: Side {
+                points: lengths.trial_points,
+                weights: part(self.pool, places.trial_weights, lengths.trial_weights),
+                table: part(self.pool, places.trial_table, lengths.trial_table),
+                geometry: part(self.geometry, places.trial_geometry, lengths.trial_geometry),
+            },
             kernel: part(self.pool, places.kernel, lengths.kernel),
-            test_geometry: part(self.geometry, places.test_geometry, lengths.test_geometry),
-            trial_geometry: part(self.geometry, places.trial_geometry, lengths.trial_geometry),
         }
     }
 }
 
-/// What planning is given, its refusal, or 0, and the lengths of the lists that the runs are lent and write.
+/// What planning is given, the number of its refusal, or 0, and the lengths of the lists that the runs are lent and write.
 #[derive(Drop)]
 pub struct Case {
-    pub sizes: Sizes,
     pub assembly: Assembly,
     pub refusal: u32,
     pub lengths: PlanLengths,
@@ -144,9 +122,7 @@ pub struct Case {
     pub entries: usize,
     distant: Distant,
     touching: Touching,
-    pub kinds: Vec<u8>,
-    pub cell_vertices: Vec<u32>,
-    pub cell_edges: Vec<u32>,
+    pub mesh: MeshVecs,
 }
 
 impl Case {
@@ -156,7 +132,6 @@ impl Case {
             assembly,
             digits: [test_points, trial_points, points, refusal, _],
         } = Head::read(words)?;
-
         let lengths = PlanLengths::read(words)?;
         let pairs = u32::read(words)? / Places::NUMBERS;
         let test_owners = usize::read(words)?;
@@ -182,8 +157,8 @@ impl Case {
             kernel: usize::read(words)?,
             geometry: usize::read(words)?,
         };
+        let kinds = vec![in alloc; TRIANGLE; sizes.cells as usize]?;
         Ok(Case {
-            sizes,
             assembly,
             refusal: u32::from(refusal),
             lengths,
@@ -194,17 +169,15 @@ impl Case {
             entries,
             distant,
             touching,
-            kinds: vec![in alloc; TRIANGLE; sizes.cells as usize]?,
-            cell_vertices: words.list(alloc, lengths.cell_vertices)?,
-            cell_edges: words.list(alloc, lengths.cell_vertices)?,
+            mesh: MeshVecs::read(words, alloc, sizes, kinds, lengths.cell_vertices)?,
         })
     }
 
-    pub fn touching<'a>(&self, numbers: Numbers<'a>, places: Places) -> TouchingLists<'a> {
+    pub fn touching<'a>(&self, numbers: Numbers<'a>, places: Places) -> TouchingNumbers<'a> {
         numbers.touching(self.touching, places)
     }
 
-    pub fn distant<'a>(&self, numbers: Numbers<'a>, places: Places) -> DistantLists<'a> {
+    pub fn distant<'a>(&self, numbers: Numbers<'a>, places: Places) -> DistantNumbers<'a> {
         numbers.distant(self.distant, places)
     }
 }

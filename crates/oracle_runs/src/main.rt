@@ -9,7 +9,7 @@ mod recorded_runs;
 use crate::cases::{Case, Numbers};
 use crate::recorded_runs::Planning;
 use planning::plan;
-use plans::Planned;
+use plans::PlanNumbers;
 use recorded::{PlanVecs, Words};
 use std::alloc::Global;
 use std::{fs, io};
@@ -25,15 +25,15 @@ fn front(list: &[u32], n: usize) -> &[u32] {
 }
 
 // Whether an accepted planning and both its runs give what is recorded.
-fn planning_agrees(words: &mut Words<'_>, alloc: Global, planning: Planning) -> io::Result<bool> {
-    let Planning {
-        case,
-        plan,
-        lists,
-        ..
-    } = planning;
-    let counts = [plan.rows, plan.columns, plan.distant, plan.touching];
-    let same = words.is_next(&counts)?
+fn planning_agrees(
+    words: &mut Words<'_>,
+    alloc: Global,
+    case: &Case,
+    counts: PlanNumbers,
+    lists: &PlanVecs,
+    numbers: Numbers<'_>,
+) -> io::Result<bool> {
+    let same = words.is_next(&[counts.rows, counts.columns, counts.distant, counts.touching])?
         & words.is_next(&lists.test_dofs)?
         & words.is_next(&lists.trial_dofs)?
         & words.is_next(&lists.test_colours)?
@@ -43,8 +43,11 @@ fn planning_agrees(words: &mut Words<'_>, alloc: Global, planning: Planning) -> 
         & words.is_next(&lists.work)?;
     let places = words.list(alloc, case.pairs as usize)?;
     let planning = Planning {
+        case,
+        counts,
+        plan: lists.plan(&case.mesh.kinds),
         places: &places,
-        ..planning
+        numbers,
     };
     Ok(
         same & planning.entries_agree(words, alloc)?
@@ -57,32 +60,9 @@ fn planning_agrees(words: &mut Words<'_>, alloc: Global, planning: Planning) -> 
 fn case_agrees(words: &mut Words<'_>, alloc: Global, numbers: Numbers<'_>) -> io::Result<bool> {
     let case = Case::read(words, alloc)?;
     let mut lists = PlanVecs::new(alloc, case.lengths)?;
-    let answer = plan(
-        case.sizes,
-        &case.kinds,
-        &case.cell_vertices,
-        &case.cell_edges,
-        case.assembly,
-        &mut lists.test_dofs,
-        &mut lists.trial_dofs,
-        &mut lists.test_colours,
-        &mut lists.trial_colours,
-        &mut lists.test_owners,
-        &mut lists.trial_owners,
-        &mut lists.work,
-    );
-    match answer {
-        Planned::Refused(refusal) => Ok(refusal == case.refusal),
-        Planned::Ready(plan) => {
-            let planning = Planning {
-                case: &case,
-                plan,
-                lists: &lists,
-                places: &[],
-                numbers,
-            };
-            planning_agrees(words, alloc, planning)
-        }
+    match plan(case.mesh.mesh(), case.assembly, &mut lists.lent()) {
+        Ok(counts) => planning_agrees(words, alloc, &case, counts, &lists, numbers),
+        Err(refusal) => Ok(refusal.number() == case.refusal),
     }
 }
 

@@ -1,9 +1,11 @@
 // Whole runs on recorded numbers.
 use crate::cases::{Case, Numbers, Places};
-use boundary_assemblers::{Added, Looked, Run};
-use cell_pairs::WorkRecord;
-use plans::PlanNumbers;
-use recorded::{PlanVecs, Words};
+use boundary_assemblers::Run;
+use cell_pairs::DISTANT;
+use plans::{Plan, PlanNumbers};
+use recorded::{EntryVecs, Words};
+use refusals::Refusal;
+use scatter::EntryLists;
 use std::alloc::Global;
 use std::io;
 
@@ -11,119 +13,43 @@ use std::io;
 #[derive(Clone, Copy)]
 pub struct Planning<'a> {
     pub case: &'a Case,
-    pub plan: PlanNumbers,
-    pub lists: &'a PlanVecs,
+    pub counts: PlanNumbers,
+    pub plan: Plan<'a>,
     pub places: &'a [Places],
     pub numbers: Numbers<'a>,
 }
 
-// The run that a call hands back, or its refusal.
-fn moved(answer: Added) -> Result<Run, u32> {
-    match answer {
-        Added::Accepted(run) => Ok(run),
-        Added::Refused(_, refusal) => Err(refusal),
-    }
-}
-
-// The record at the run's position.
-fn looked(answer: Looked) -> Result<WorkRecord, u32> {
-    match answer {
-        Looked::Found(_, record) => Ok(record),
-        Looked::Refused(_, refusal) => Err(refusal),
-    }
-}
-
 impl Planning<'_> {
     // A whole entries run: the position after it, or the first refusal.
-    fn play_entries(
-        self,
-        rows: &mut [u32],
-        columns: &mut [u32],
-        values: &mut [f64],
-    ) -> Result<u32, u32> {
-        let lists = self.lists;
-        let mut run = Run::begin_entries(self.plan);
-        for places in self.places.iter().skip(self.plan.distant as usize) {
+    fn play_entries(self, lists: &mut EntryLists<'_>) -> Result<u32, Refusal> {
+        let mut run = Run::begin_entries(self.counts);
+        for places in self.places.iter().skip(self.counts.distant as usize) {
             let lent = self.case.touching(self.numbers, *places);
-            run = moved(run.add_entries(
-                &self.case.kinds,
-                &lists.test_dofs,
-                &lists.trial_dofs,
-                &lists.work,
-                lent.points,
-                lent.weights,
-                lent.test_table,
-                lent.trial_table,
-                lent.kernel,
-                lent.test_geometry,
-                lent.trial_geometry,
-                rows,
-                columns,
-                values,
-            ))?;
+            run.add_entries(self.plan, lent, lists)?;
         }
         Ok(run.position)
     }
 
     // A whole dense run, each pair added as its record asks.
-    fn play_matrix(self, matrix: &mut [f64]) -> Result<u32, u32> {
-        let lists = self.lists;
-        let kinds = &self.case.kinds;
-        let mut run = Run::begin(self.plan);
+    fn play_matrix(self, matrix: &mut [f64]) -> Result<u32, Refusal> {
+        let mut run = Run::begin(self.counts);
         for places in self.places {
-            let record = looked(run.look(kinds, &lists.test_dofs, &lists.trial_dofs, &lists.work))?;
-            let added = if record.pattern == DISTANT {
+            if run.look(self.plan)?.pattern == DISTANT {
                 let lent = self.case.distant(self.numbers, *places);
-                run.add_distant(
-                    kinds,
-                    &lists.test_dofs,
-                    &lists.trial_dofs,
-                    &lists.work,
-                    lent.test_points,
-                    lent.trial_points,
-                    lent.test_weights,
-                    lent.trial_weights,
-                    lent.test_table,
-                    lent.trial_table,
-                    lent.kernel,
-                    lent.test_geometry,
-                    lent.trial_geometry,
-                    matrix,
-                )
+                run.add_distant(self.plan, lent, matrix)?;
             } else {
                 let lent = self.case.touching(self.numbers, *places);
-                run.add_touching(
-                    kinds,
-                    &lists.test_dofs,
-                    &lists.trial_dofs,
-                    &lists.work,
-                    lent.points,
-                    lent.weights,
-                    lent.test_table,
-                    lent.trial_table,
-                    lent.kernel,
-                    lent.test_geometry,
-                    lent.trial_geometry,
-                    matrix,
-                )
-            };
-            run = moved(added)?;
+                run.add_touching(self.plan, lent, matrix)?;
+            }
         }
         Ok(run.position)
     }
 
     /// Whether an entries run writes the recorded entries.
     pub fn entries_agree(self, words: &mut Words<'_>, alloc: Global) -> io::Result<bool> {
-        let mut rows = vec![in alloc; 0; self.case.entries]?;
-        let mut columns = vec![in alloc; 0; self.case.entries]?;
-        let mut values = vec![in alloc; 0.0; self.case.entries]?;
-        let played = self.play_entries(&mut rows, &mut columns, &mut values);
-        Ok(
-            (played == Ok(self.case.pairs))
-                & words.is_next(&rows)?
-                & words.is_next(&columns)?
-                & words.is_next(&values)?,
-        )
+        let mut lists = EntryVecs::new(alloc, self.case.entries, 0, 0.0)?;
+        let played = self.play_entries(&mut lists.lent());
+        Ok((played == Ok(self.case.pairs)) & lists.are_next(words)?)
     }
 
     /// Whether a dense run, from the front of the pool, gives the recorded matrix.
@@ -134,6 +60,3 @@ impl Planning<'_> {
         Ok((played == Ok(self.case.pairs)) & words.is_next(&matrix)?)
     }
 }
-
-// The pattern of a distant pair.
-const DISTANT: u32 = 255;

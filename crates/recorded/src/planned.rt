@@ -1,5 +1,8 @@
-// The lists of a case that planning writes.
+// The lists of a case: those of its mesh, those that planning writes, and those of an entries run.
 use crate::{Recorded, Words};
+use grid::{Mesh, Sizes};
+use plans::{Plan, PlanLists};
+use scatter::EntryLists;
 use std::alloc::{AllocError, Global};
 use std::io;
 
@@ -31,6 +34,42 @@ impl PlanLengths {
     }
 }
 
+/// A mesh.
+#[derive(Drop)]
+pub struct MeshVecs {
+    pub sizes: Sizes,
+    pub kinds: Vec<u8>,
+    pub cell_vertices: Vec<u32>,
+    pub cell_edges: Vec<u32>,
+}
+
+impl MeshVecs {
+    /// A mesh of these kinds, whose other two lists are the next ones, each of n numbers.
+    pub fn read(
+        words: &mut Words<'_>,
+        alloc: Global,
+        sizes: Sizes,
+        kinds: Vec<u8>,
+        n: usize,
+    ) -> io::Result<Self> {
+        Ok(MeshVecs {
+            sizes,
+            kinds,
+            cell_vertices: words.list(alloc, n)?,
+            cell_edges: words.list(alloc, n)?,
+        })
+    }
+
+    pub fn mesh(&self) -> Mesh<'_> {
+        Mesh {
+            sizes: self.sizes,
+            kinds: &self.kinds,
+            cell_vertices: &self.cell_vertices,
+            cell_edges: &self.cell_edges,
+        }
+    }
+}
+
 /// The lists that planning writes.
 #[derive(Drop)]
 pub struct PlanVecs {
@@ -55,5 +94,65 @@ impl PlanVecs {
             trial_owners: vec![in alloc; 0; lengths.trial_owners]?,
             work: vec![in alloc; 0; lengths.work]?,
         })
+    }
+
+    /// The lists, to be written.
+    pub fn lent(&mut self) -> PlanLists<'_> {
+        PlanLists {
+            test_dofs: &mut self.test_dofs,
+            trial_dofs: &mut self.trial_dofs,
+            test_colours: &mut self.test_colours,
+            trial_colours: &mut self.trial_colours,
+            test_owners: &mut self.test_owners,
+            trial_owners: &mut self.trial_owners,
+            work: &mut self.work,
+        }
+    }
+
+    /// The plan for a run on cells of these kinds.
+    pub fn plan<'a>(&'a self, kinds: &'a [u8]) -> Plan<'a> {
+        Plan {
+            kinds,
+            test_dofs: &self.test_dofs,
+            trial_dofs: &self.trial_dofs,
+            work: &self.work,
+        }
+    }
+}
+
+/// The lists that an entries run writes.
+#[derive(Drop)]
+pub struct EntryVecs {
+    pub rows: Vec<u32>,
+    pub columns: Vec<u32>,
+    pub values: Vec<f64>,
+}
+
+impl EntryVecs {
+    /// Lists of n entries, each of this row, column and value.
+    pub fn new(alloc: Global, n: usize, number: u32, value: f64) -> Result<Self, AllocError> {
+        Ok(EntryVecs {
+            rows: vec![in alloc; number; n]?,
+            columns: vec![in alloc; number; n]?,
+            values: vec![in alloc; value; n]?,
+        })
+    }
+
+    /// The lists, to be written.
+    pub fn lent(&mut self) -> EntryLists<'_> {
+        EntryLists {
+            rows: &mut self.rows,
+            columns: &mut self.columns,
+            values: &mut self.values,
+        }
+    }
+
+    /// Whether the next lists are these.
+    pub fn are_next(&self, words: &mut Words<'_>) -> io::Result<bool> {
+        Ok(
+            words.is_next(&self.rows)?
+                & words.is_next(&self.columns)?
+                & words.is_next(&self.values)?,
+        )
     }
 }

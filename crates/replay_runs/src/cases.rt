@@ -1,8 +1,7 @@
 // A case: what is played, and what must come of it.
 use function::{Element, Elements};
-use grid::Sizes;
 use planning::Assembly;
-use recorded::{Head, PlanLengths, Recorded, Words, read_element};
+use recorded::{Head, MeshVecs, PlanLengths, Recorded, Words, read_element};
 use std::alloc::Global;
 use std::{fmt, io};
 
@@ -21,7 +20,6 @@ pub struct Gathering {
 /// What is planned and played, and what must be answered: the position after the last call or planning's refusal, and where gathering is asked what it answers.
 #[derive(Drop)]
 pub struct Case {
-    pub sizes: Sizes,
     pub assembly: Assembly,
     pub entries: bool,
     pub lengths: PlanLengths,
@@ -30,9 +28,7 @@ pub struct Case {
     pub answer_count: usize,
     pub played: Result<u32, u32>,
     pub gathering: Option<Gathering>,
-    pub kinds: Vec<u8>,
-    pub cell_vertices: Vec<u32>,
-    pub cell_edges: Vec<u32>,
+    pub mesh: MeshVecs,
     pub calls: Vec<usize>,
     pub pool: Vec<f64>,
 }
@@ -63,10 +59,8 @@ impl Case {
             assembly,
             digits: [entries, high, low, _, _],
         } = Head::read(words)?;
-
         let test = with_quads(assembly.test, read_element(words)?);
         let trial = with_quads(assembly.trial, read_element(words)?);
-
         let lengths = PlanLengths::read(words)?;
         let call_numbers = usize::read(words)?;
         let pool = usize::read(words)?;
@@ -80,8 +74,8 @@ impl Case {
         let gathered = read_gathered(words)?;
         let kinds = usize::read(words)?;
         let refusal = 16 * u32::from(high) + u32::from(low);
+        let kinds = words.list(alloc, kinds)?;
         Ok(Case {
-            sizes,
             assembly: Assembly {
                 test,
                 trial,
@@ -103,9 +97,7 @@ impl Case {
                 values,
                 answer,
             }),
-            kinds: words.list(alloc, kinds)?,
-            cell_vertices: words.list(alloc, lengths.cell_vertices)?,
-            cell_edges: words.list(alloc, lengths.cell_vertices)?,
+            mesh: MeshVecs::read(words, alloc, sizes, kinds, lengths.cell_vertices)?,
             calls: words.list(alloc, call_numbers)?,
             pool: words.list(alloc, pool)?,
         })
@@ -114,7 +106,7 @@ impl Case {
 
 impl fmt::Display for Case {
     fn fmt<W: fmt::Write>(&self, f: &mut fmt::Formatter<W>) -> fmt::Result {
-        let cells = self.sizes.cells;
+        let cells = self.mesh.sizes.cells;
         let calls = self.calls.len() / CALL_NUMBERS;
         write!(f, "{cells} cells, {calls} calls, ")?;
         match self.played {

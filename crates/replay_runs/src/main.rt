@@ -8,10 +8,8 @@ mod cases;
 mod sparse;
 
 use crate::cases::Case;
-use crate::sparse::Entries;
-use boundary_assemblers::Run;
-use recorded::{PlanVecs, Words};
-use replay::{Replayed, replay};
+use recorded::{EntryVecs, PlanVecs, Words};
+use replay::replay;
 use std::{fs, io};
 
 // What stands in the lists before the calls.
@@ -19,66 +17,36 @@ const NUMBER_BEFORE: u32 = 65535;
 
 const VALUE_BEFORE: f64 = 0.5;
 
-// The run after the last call, or planning's refusal.
-fn run_of(answer: Replayed) -> Result<Run, u32> {
-    match answer {
-        Replayed::Played(run) => Ok(run),
-        Replayed::Refused(number) => Err(number),
-    }
-}
-
 // Reads a case whole and plays it.
 fn case_agrees(rt: &HostRuntime, words: &mut Words<'_>) -> io::Result<bool> {
     let alloc = rt.alloc();
     let case = Case::read(words, alloc)?;
     let mut matrix = words.list(alloc, case.matrix_count)?;
     let mut lists = PlanVecs::new(alloc, case.lengths)?;
-    let mut rows = vec![in alloc; NUMBER_BEFORE; case.entry_count]?;
-    let mut columns = vec![in alloc; NUMBER_BEFORE; case.entry_count]?;
-    let mut values = vec![in alloc; VALUE_BEFORE; case.entry_count]?;
+    let mut entries = EntryVecs::new(alloc, case.entry_count, NUMBER_BEFORE, VALUE_BEFORE)?;
     let mut answers = vec![in alloc; NUMBER_BEFORE; case.answer_count]?;
-    let played = run_of(replay(
-        case.sizes,
-        &case.kinds,
-        &case.cell_vertices,
-        &case.cell_edges,
+    let played = replay(
+        case.mesh.mesh(),
         case.assembly,
-        &mut lists.test_dofs,
-        &mut lists.trial_dofs,
-        &mut lists.test_colours,
-        &mut lists.trial_colours,
-        &mut lists.test_owners,
-        &mut lists.trial_owners,
-        &mut lists.work,
+        &mut lists.lent(),
         case.entries,
         &case.calls,
         &case.pool,
         &mut matrix,
-        &mut rows,
-        &mut columns,
-        &mut values,
+        &mut entries.lent(),
         &mut answers,
-    ));
+    );
+    let answer = played
+        .map(|run| (run.position, run.entries))
+        .map_err(|refusal| refusal.number());
     let expected = case.played.map(|position| (position, case.entries));
-    let mut agrees = (played.map(|run| (run.position, run.entries)) == expected)
+    let mut agrees = (answer == expected)
         & words.is_next(&answers)?
         & words.is_next(&matrix)?
-        & words.is_next(&rows)?
-        & words.is_next(&columns)?
-        & words.is_next(&values)?;
+        & entries.are_next(words)?;
     if let Some(gathering) = case.gathering {
-        let (row_count, column_count) = played.map_or(
-            (0, 0),
-            |run| (run.numbers.rows, run.numbers.columns),
-        );
-        let entries = Entries {
-            row_count,
-            column_count,
-            rows: &rows,
-            columns: &columns,
-            values: &values,
-        };
-        agrees &= gathering.agrees(words, alloc, entries)?;
+        let (rows, columns) = played.map_or((0, 0), |run| (run.numbers.rows, run.numbers.columns));
+        agrees &= gathering.agrees(words, alloc, &entries, rows, columns)?;
     }
     let verdict = if agrees { "agree" } else { "DIFFER" };
     println!(rt; "{case}: {verdict}")?;
