@@ -1,6 +1,6 @@
 -- Laws on what is lent: what a point reads, and the sums of the points passed. Assumes nothing.
-use Rattle.std.specs.Prelude.{ℕ, ◌+◌, ◌*◌, ◌<◌, ◌≤◌, true, ◌≡◌, List, length, replicate, Float}
-use Rattle.std.proofs.Common.{arith, ◌∙◌, ap, ap₂}
+use Rattle.std.specs.Prelude.{ℕ, ◌+◌, ◌*◌, ◌<◌, ◌≤◌, ◌≡◌, List, length, replicate, Float}
+use Rattle.std.proofs.Common.{arith, ◌∙◌, ap}
 use Rattle.std.proofs.Math.Path.{refl, sym}
 use Rattle.std.proofs.lemmas.List.{length-replicate, get_or-replicate}
 use Rattle.std.specs.Float.{nan}
@@ -12,22 +12,12 @@ use Rattle.function.specs.Elements.{most_dim}
 use Rattle.table.specs.Rows.{table_row}
 use Rattle.integrands.specs.declared.Integrand.{Integrand}
 use Rattle.integrands.specs.declared.Geometry.{Geometry}
-use Rattle.integrands.specs.declared.KindValue.{KindValue}
-use Rattle.integrands.specs.Terms.{kind_of, integrand_right, kernel_width, table_rows}
-use Rattle.integrands.specs.ValueFacts.{one_outer_value, one_curls_value}
-use Rattle.integrands.specs.Parts.{ValueOfKind, factored}
-use Rattle.integrands.specs.Values.{geometry_at, curl_curl, point_value}
-use Rattle.integrands.specs.Columns.{Held, Added, Table, held_added, rows_some, hundred_place}
-use Rattle.lent_numbers.specs.Lent.{most_distant_points, most_point_pairs, Touching, Distant, TouchingFits, DistantFits}
+use Rattle.integrands.specs.Terms.{kernel_width, table_rows}
+use Rattle.integrands.specs.Values.{geometry_at, point_value}
+use Rattle.integrands.specs.Columns.{Held, Table, rows_some, hundred_place}
+use Rattle.lent_numbers.specs.Lent.{most_point_pairs, Touching, Distant, TouchingFits, DistantFits}
 use Rattle.lent_numbers.specs.Sizes.{touching_sizes, distant_sizes, small_pairs}
 use Rattle.lent_numbers.specs.Entries.{touching_value, touching_summand, touching_entry, distant_value, distant_summand, distant_entry}
-
--- one term alone, which passes check 6, with its kernel width and table rows as the code has them
-pub record Alone (f : Integrand) (K D : ℕ) : Type 0 where
-  pub one : f.terms ≡ 1
-  pub width : K ≡ kernel_width f
-  pub rows : D ≡ table_rows f
-  pub right : integrand_right f ≡ true
 
 -- ---- what a point reads
 
@@ -85,60 +75,6 @@ distant_pair_lem {f} {m} {n} {a} h t r lt lr =
     let most = small_pairs a.test_points a.trial_points h.test_count h.trial_count in
     (omega (arith, inside, most), omega (arith, inside, most))
 
--- what test point t and trial point r read
-pub record Reaches (K D T R t r m n : ℕ) (ts rs ks ws gs : List Float) : Type 0 where
-  pub test_table : Table D T t m ts
-  pub trial_table : Table D R r n rs
-  pub kernel : K * (t + T * r) + K ≤ length ks
-  pub column : T * r ≤ most_point_pairs
-  pub place : t + T * r ≤ most_point_pairs
-  pub few : r < most_distant_points
-  pub trial_weight : r < length ws
-  pub trial_geometry : 10 * r + 10 ≤ length gs
-
-pub reaches : {f : Integrand} {K D m n : ℕ} {a : Distant} → Alone f K D → DistantFits f m n a → (t r : ℕ) → t < a.test_points → r < a.trial_points
-    → Reaches K D a.test_points a.trial_points t r m n a.test_table a.trial_table a.kernel a.trial_weights a.trial_geometry
-reaches {f} {K} {D} {m} {n} {a} alone h t r lt lr =
-    record {
-      test_table = rw alone.rows (distant_test_table h t lt);
-      trial_table = rw alone.rows (distant_trial_table h r lr);
-      kernel = rw alone.width (distant_kernel h t r lt lr);
-      column = (distant_pair_lem h t r lt lr).0;
-      place = omega (arith, (distant_pair_lem h t r lt lr).1);
-      few = omega (arith, lr, h.trial_count);
-      trial_weight = (distant_trial_geometry h r lr).1;
-      trial_geometry = (distant_trial_geometry h r lr).0;
-    }
-
--- ---- what a point adds, for one term
-
--- value·(trial weight·trial jdet)·v, at test point t and trial point r
-abbrev pub summand_at : Integrand → ℕ → ℕ → ℕ → ℕ → ℕ → ℕ → Geometry → Float → List Float → List Float → List Float → List Float → List Float → ℕ → ℕ → Float
-summand_at f K D T R t r test v test_table trial_table kernel trial_weights trial_geometry i j =
-    point_value f (λ (d : ℕ). kernel ! (d + K * (t + T * r))) (table_row test_table D T t i) (table_row trial_table D R r j) test (geometry_at trial_geometry r)
-    ⊗ (trial_weights ! r ⊗ (geometry_at trial_geometry r).jdet)
-    ⊗ v
-
-module _ (f : Integrand) (k t r : ℕ → Float) (test trial : Geometry) {K D kind : ℕ} {x : KindValue} (alone : Alone f K D) (is : kind ≡ kind_of f.first) (point : ValueOfKind kind k test trial x) where
-  at_first : ValueOfKind (kind_of f.first) k test trial x
-  at_first = rw is at point
-
-  pub outer_value : (D ≡ 3 → ⊥) → factored f.first (x.c ⊗ t 0 ⊗ r 0) ≡ point_value f k t r test trial
-  outer_value h = one_outer_value f k t r test trial alone.one at_first (λ e. h (alone.rows ∙ e))
-
-  -- with the geometries by another name
-  pub curls_value : {s g : Geometry} → test ≡ s → trial ≡ g → D ≡ 3 → factored f.first (curl_curl (λ (d : ℕ). x.c) t r s g) ≡ point_value f k t r test trial
-  curls_value es e h =
-      ap (factored f.first) (ap₂ (curl_curl (λ (d : ℕ). x.c) t r) (sym es) (sym e)) ∙ one_curls_value f k t r test trial alone.one at_first (sym alone.rows ∙ h)
-
-  pub outer_summand : {g : Geometry} (y v : Float) → trial ≡ g → (D ≡ 3 → ⊥)
-      → factored f.first (x.c ⊗ t 0 ⊗ r 0) ⊗ (y ⊗ trial.jdet) ⊗ v ≡ point_value f k t r test g ⊗ (y ⊗ g.jdet) ⊗ v
-  outer_summand y v e h = ap (λ (z : Float). z ⊗ (y ⊗ trial.jdet) ⊗ v) (outer_value h) ∙ ap (λ (g : Geometry). point_value f k t r test g ⊗ (y ⊗ g.jdet) ⊗ v) e
-
-  pub curls_summand : {s g : Geometry} (y v : Float) → test ≡ s → trial ≡ g → D ≡ 3
-      → factored f.first (curl_curl (λ (d : ℕ). x.c) t r s g) ⊗ (y ⊗ trial.jdet) ⊗ v ≡ point_value f k t r test g ⊗ (y ⊗ g.jdet) ⊗ v
-  curls_summand y v es e h = ap (λ (z : Float). z ⊗ (y ⊗ trial.jdet) ⊗ v) (curls_value es e h) ∙ ap (λ (g : Geometry). point_value f k t r test g ⊗ (y ⊗ g.jdet) ⊗ v) e
-
 -- ---- the sums of the points passed
 
 module _ (f : Integrand) where
@@ -194,14 +130,6 @@ module _ (f : Integrand) where
   unfolding distant_sum distant_summand distant_value
   distant_more a i j t r K D g h {x} {v} eg eh ek ed ev e =
       rw (e, ev, eg, eh, ek, ed) (sym (upto_more (λ (r : ℕ) (s : Float). s ⊕ distant_summand f a i j t r) r (distant_rows a i j t)))
-
-  -- for one term: what test point t and trial point r add
-  pub distant_added : (a : Distant) {m n K D : ℕ} (t r : ℕ) {g : Geometry} {v : Float} {xs ys : List Float} → Alone f K D → g ≡ geometry_at a.test_geometry t → v ≡ a.test_weights ! t ⊗ g.jdet
-      → Held m n xs (λ i j. distant_sum a i j t r)
-      → Added m n xs ys (λ i j. summand_at f K D a.test_points a.trial_points t r g v a.test_table a.trial_table a.kernel a.trial_weights a.trial_geometry i j)
-      → Held m n ys (λ i j. distant_sum a i j t (r + 1))
-  distant_added a {m} {n} {K} {D} t r {g} alone eg ev held added =
-      held_added _ held added (λ i j l b. distant_more a i j t r K D g (geometry_at a.trial_geometry r) eg refl alone.width alone.rows ev refl)
 
   pub distant_row_end : (a : Distant) (i j t : ℕ) → distant_sum a i j t a.trial_points ≡ distant_rows a i j (t + 1)
   unfolding distant_sum distant_rows

@@ -1,5 +1,6 @@
 -- A point value in parts, as the code works it out: what belongs to the point, and what each basis function brings. x are the table rows of one. Assumes nothing.
 use Rattle.std.specs.Prelude.{ℕ, Bool, true, false, ◌≡◌, eqb, Float}
+use Rattle.std.specs.Float.{nan}
 use Rattle.numbers.specs.Floats.{0·0, ◌⊕◌, ◌⊗◌, ◌⊘◌}
 use Rattle.integrands.specs.declared.Geometry.{Geometry}
 use Rattle.integrands.specs.declared.KindValue.{KindValue}
@@ -12,6 +13,10 @@ use Rattle.integrands.specs.Values.{curl, curl_curl, kind_value}
 abbrev pub has_curls : KindValue → Bool
 has_curls (Outer c) = false
 has_curls (Curls c) = true
+
+abbrev pub factor_of : KindValue → Float
+factor_of (Outer c) = c
+factor_of (Curls c) = c
 
 -- what it stands for, of basis functions with the rows t and r: c·t·r, or the curls with c before them
 unfoldable pub value_of : KindValue → (ℕ → Float) → (ℕ → Float) → Geometry → Geometry → Float
@@ -35,6 +40,10 @@ curls g x = record { x0 = curl g.j3 g.j0 x; x1 = curl g.j4 g.j1 x; x2 = curl g.j
 -- one number
 abbrev pub alone : Float → Part
 alone x = record { x0 = x; x1 = 0·0; x2 = 0·0 }
+
+-- what is read past the end of a list of parts
+abbrev pub no_part : Part
+no_part = record { x0 = nan; x1 = nan; x2 = nan }
 
 -- what a basis function brings: its three curls; else row 0, which has c before it on the test side
 abbrev pub test_part : KindValue → Geometry → (ℕ → Float) → Part

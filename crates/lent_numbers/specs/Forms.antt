@@ -4,6 +4,8 @@ use native.Mathlib.Omega.{arith}
 use Rattle.lists.specs.Bool.{◌and◌, every, turned, passed}
 use Rattle.numbers.specs.Floats.{all_finite}
 use Rattle.integrands.specs.declared.Integrand.{Integrand}
+use Rattle.integrands.specs.declared.Point.{Point}
+use Rattle.integrands.specs.Values.{geometry_at}
 use Rattle.integrands.specs.Terms.{kernel_width, table_rows}
 use Rattle.lent_numbers.specs.declared.Side.{Side}
 use Rattle.lent_numbers.specs.declared.TouchingNumbers.{TouchingNumbers}
@@ -23,6 +25,10 @@ test_of a = record { points = a.points; weights = a.weights; table = a.test_tabl
 
 abbrev pub trial_of : TouchingNumbers → Side
 trial_of a = record { points = a.points; weights = a.weights; table = a.trial_table; geometry = a.trial_geometry }
+
+-- point p of a side, with D table rows and n basis functions
+abbrev pub point_of : ℕ → ℕ → Side → ℕ → Point
+point_of D n s p = record { geometry = geometry_at s.geometry.now p; table = record { values = s.table; rows = D; points = s.points; dim = n; point = p } }
 
 -- of a side with D table rows and n basis functions
 abbrev pub side_lengths : ℕ → ℕ → Side → Bool

@@ -6,9 +6,8 @@ ghost use Rattle.std.specs.Prelude.{◌≡◌, ℕ, ◌+◌, ◌*◌, ◌<◌, �
 ghost use Rattle.lists.specs.Refusals.{refusal};
 ghost use Rattle.refusals.specs.Numbers.{told};
 ghost use Rattle.numbers.specs.Ranges.{within};
-ghost use Rattle.integrands.specs.Values.{geometry_at};
 ghost use Rattle.lent_numbers.specs.Lent.{most_touching_points, most_distant_points, jdets_above0, touching_lengths, touching_numbers, touching_checks, distant_lengths, distant_numbers, distant_checks};
-ghost use Rattle.lent_numbers.specs.Forms.{touching_of, distant_of, test_of, trial_of, side_lengths, side_numbers};
+ghost use Rattle.lent_numbers.specs.Forms.{touching_of, distant_of, test_of, trial_of, point_of, side_lengths, side_numbers};
 
 use integrands::{Integrand, Point};
 use numbers::all_finite;
@@ -69,11 +68,10 @@ fn jdets_above_0(s: &[f64], points: usize) -> bool
 }
 
 impl<'a> Side<'a> {
-    // What stands at a point, with so many table rows and basis functions.
+    // A point, with so many table rows and basis functions.
     pub fn at(self, rows: usize, dim: usize, point: usize) -> Point<'a>
         requires { 10 * point + 10 ≤ length self.geometry.now }
-        ensures geometry { result.geometry ≡ geometry_at self.entry.geometry.now point }
-        ensures table { (result.table.values ≡ self.entry.table) × (result.table.rows ≡ rows) × (result.table.points ≡ self.entry.points) × (result.table.dim ≡ dim) × (result.table.point ≡ point) }
+        ensures { result ≡ point_of rows dim self.entry point }
     {
         Point {
             geometry: integrands::geometry_at(self.geometry, point),

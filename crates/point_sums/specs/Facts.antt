@@ -1,21 +1,18 @@
--- Laws on what a pair of points adds: the same sums by another name, and dims by their values. Assumes nothing.
-use Rattle.std.specs.Prelude.{ℕ, ◌+◌, ◌*◌, true, ◌&&◌, ◌≡◌, List, eqb, Float}
-use Rattle.std.proofs.Common.{◌∙◌, ap, eqb-true}
-use Rattle.lists.specs.Bool.{◌and◌, and_left, and_right}
+-- Laws on what a pair of points adds. Assumes nothing.
+use Rattle.std.specs.Prelude.{ℕ, true, ◌+◌, ◌*◌, ◌≡◌, List, Float}
+use Rattle.std.proofs.Common.{◌∙◌, ap, arith}
 use Rattle.numbers.specs.Floats.{◌⊕◌, ◌!◌}
-use Rattle.integrands.specs.Columns.{Added, Table}
+use Rattle.integrands.specs.declared.Integrand.{Integrand}
+use Rattle.integrands.specs.Terms.{kind_of, second_read, table_rows}
+use Rattle.integrands.specs.Columns.{Added, rows_some, first_rows, second_rows}
 
 -- the same sums, by another name
 pub added_as : {m n : ℕ} {xs ys : List Float} {u v : ℕ → ℕ → Float} → Added m n xs ys u → ((i j : ℕ) → u i j ≡ v i j) → Added m n xs ys v
 added_as {m} {n} {xs} {ys} h e = record { size = h.size; at = λ i j l b. h.at i j l b ∙ ap (λ (x : Float). xs ! (i + m * j) ⊕ x) (e i j); rest = h.rest }
 
--- both dims are d
-pub both_are : (d a b : ℕ) → (eqb a d && eqb b d) ≡ true → (a ≡ d) × (b ≡ d)
-unfolding ◌and◌
-both_are d a b e = (eqb-true a d (and_left (eqb a d) (eqb b d) e), eqb-true b d (and_right (eqb a d) (eqb b d) e))
+-- without three rows no kind that is read is 3
+pub first_other : (f : Integrand) → (table_rows f ≡ 3 → ⊥) → kind_of f.first ≡ 3 → ⊥
+first_other f h e = h (omega (arith, first_rows f e, rows_some f))
 
-pub added_at : {d e m n : ℕ} {xs ys : List Float} {u : ℕ → ℕ → Float} → (m ≡ d) × (n ≡ e) → Added d e xs ys u → Added m n xs ys u
-added_at q h = rw (q.0, q.1) h
-
-pub table_at : {d D P p m : ℕ} {table : List Float} → m ≡ d → Table D P p m table → Table D P p d table
-table_at e h = rw e at h
+pub second_other : (f : Integrand) → second_read f ≡ true → (table_rows f ≡ 3 → ⊥) → kind_of f.second ≡ 3 → ⊥
+second_other f two h e = h (omega (arith, second_rows f two e, rows_some f))

@@ -1,15 +1,450 @@
 // What a pair of points adds to each entry of a local matrix.
 #![tactic(auto)]
 
-mod one_term;
-mod two_terms;
+ghost use Rattle.function.specs.Elements.{most_dim};
+ghost use Rattle.std.specs.Prelude.{◌≡◌, ℕ, ◌+◌, ◌*◌, ◌<◌, ◌≤◌, length, Float, true};
+ghost use Rattle.numbers.specs.Floats.{◌⊕◌, ◌⊗◌, ◌!◌};
+ghost use Rattle.table.specs.Views.{row_of};
+ghost use Rattle.integrands.specs.declared.Integrand.{Integrand};
+ghost use Rattle.integrands.specs.declared.Term.{Term};
+ghost use Rattle.integrands.specs.declared.Term.TheVariants as Variants;
+ghost use Rattle.integrands.specs.Terms.{kind_of, table_rows};
+ghost use Rattle.integrands.specs.Values.{term_value};
+ghost use Rattle.integrands.specs.Parts.{ValueOfKind, has_curls, factored, test_part};
+ghost use Rattle.integrands.specs.Columns.{Added};
+ghost use Rattle.integrands.specs.Views.{Covers};
+ghost use Rattle.point_sums.specs.Weights.{weighed};
+ghost use Rattle.point_sums.specs.Parts.{Long, part_at};
+ghost use Rattle.point_sums.specs.Reads.{PairReads, pair_sum};
 
-pub use one_term::{add_curls, add_outer, add_outer_at};
-pub use two_terms::add_terms;
+use function::MOST_DIM;
+use integrands::{Integrand, KindValue, Part, Point, Term};
+use table::Table;
 
 // How a point value is weighed: value·w·v. One that is weighed once has 1 for v.
 #[derive(Clone, Copy)]
 pub struct Weight {
     pub w: f64,
     pub v: f64,
+}
+
+// What each test basis function brings, number by number: the compiler then works out two at a time.
+#[derive(Clone, Copy)]
+struct Parts {
+    x0: [f64; MOST_DIM],
+    x1: [f64; MOST_DIM],
+    x2: [f64; MOST_DIM],
+}
+
+const NO_PARTS: Parts = Parts {
+    x0: [0.0; MOST_DIM],
+    x1: [0.0; MOST_DIM],
+    x2: [0.0; MOST_DIM],
+};
+
+impl Parts {
+    #[inline(always)]
+    fn at(&self, b: usize) -> Part
+        requires { Long self.now × (b < most_dim) }
+        ensures { result ≡ part_at self.now b }
+    {
+        Part {
+            x0: self.x0[b],
+            x1: self.x1[b],
+            x2: self.x2[b],
+        }
+    }
+}
+
+// Adds value·w·v to each entry. The value at test basis i and trial basis j is `value(i, t)`, where t is what trial basis j brings.
+#[inline(always)]
+fn add_values<T: Copy, B: Fn(usize) -> T, V: Fn(usize, T) -> f64>(
+    entries: &mut [f64; 100],
+    weight: Weight,
+    test_dim: usize,
+    trial_dim: usize,
+    brings: B,
+    value: V,
+)
+    requires sizes { (length entries.old ≡ 100) × (test_dim ≤ most_dim) × (trial_dim ≤ most_dim) }
+    requires may_bring { (j : ℕ) → j < trial_dim → B.pre brings j }
+    requires may_value { (i j : ℕ) (t : T) → i < test_dim → j < trial_dim → B.post brings j t → V.pre value i t }
+    ensures { (u : ℕ → ℕ → Float)
+        → ((i j : ℕ) (t : T) (x : Float) → i < test_dim → j < trial_dim → B.post brings j t → V.post value i t x → x ≡ u i j)
+        → Added test_dim trial_dim entries.old entries.new (λ (i j : ℕ). weighed weight (u i j)) }
+{
+    for j in 0..trial_dim {
+        let t = brings(j);
+        for i in 0..test_dim {
+            entries[i + test_dim * j] += value(i, t) * weight.w * weight.v;
+        }
+    }
+}
+
+// c times row 0 of each basis function.
+#[inline(always)]
+fn scale_rows(scaled: &mut [f64; MOST_DIM], c: f64, table: Table)
+    requires { (length scaled.old ≡ most_dim) × Covers table }
+    ensures { (b : ℕ) → b < table.entry.dim → scaled.new ! b ≡ c ⊗ row_of table.entry b 0 }
+{
+    for b in 0..table.dim {
+        scaled[b] = c * table.get(b, 0);
+    }
+}
+
+// What each test basis function brings.
+#[inline(always)]
+fn bring_parts(parts: &mut Parts, x: KindValue, test: Point)
+    requires { Long parts.old × Covers test.table × (has_curls x ≡ true → 3 ≤ test.table.rows) }
+    ensures long { Long parts.new }
+    ensures right { (b : ℕ) → b < test.entry.table.dim → part_at parts.new b ≡ test_part x test.entry.geometry (row_of test.entry.table b) }
+{
+    for b in 0..test.table.dim {
+        let part = integrands::test_part(x, test, b);
+        parts.x0[b] = part.x0;
+        parts.x1[b] = part.x1;
+        parts.x2[b] = part.x2;
+    }
+}
+
+// A term other than curl-curl: c·t·r with its factor.
+#[inline(always)]
+fn add_outer(
+    entries: &mut [f64; 100],
+    weight: Weight,
+    term: Term,
+    c: f64,
+    test: Table,
+    trial: Table,
+)
+    requires { (length entries.old ≡ 100) × Covers test × Covers trial }
+    ensures { Added test.entry.dim trial.entry.dim entries.old entries.new (λ (i j : ℕ).
+        weighed weight (factored term (c ⊗ row_of test.entry i 0 ⊗ row_of trial.entry j 0))) }
+{
+    let mut scaled = [0.0; MOST_DIM];
+    scale_rows(&mut scaled, c, test);
+    add_values(
+        entries,
+        weight,
+        test.dim,
+        trial.dim,
+        |j| trial.get(j, 0),
+        |i, r| integrands::factored(term, scaled[i] * r),
+    );
+}
+
+// A term with curls; x is its value at the point.
+#[inline(always)]
+fn add_curls(
+    entries: &mut [f64; 100],
+    weight: Weight,
+    term: Term,
+    x: KindValue,
+    test: Point,
+    trial: Point,
+)
+    requires { (length entries.old ≡ 100) × Covers test.table × Covers trial.table × (has_curls x ≡ true → (3 ≤ test.table.rows) × (3 ≤ trial.table.rows)) }
+    ensures { (k : ℕ → Float) → ValueOfKind (kind_of term) k test.entry.geometry trial.entry.geometry x
+        → Added test.entry.table.dim trial.entry.table.dim entries.old entries.new (λ (i j : ℕ).
+        weighed weight (term_value term k (row_of test.entry.table i) (row_of trial.entry.table j) test.entry.geometry trial.entry.geometry)) }
+{
+    let mut parts = NO_PARTS;
+    bring_parts(&mut parts, x, test);
+    let test_jdet = test.geometry.jdet;
+    let trial_jdet = trial.geometry.jdet;
+    add_values(
+        entries,
+        weight,
+        test.table.dim,
+        trial.table.dim,
+        |j| integrands::trial_part(x, trial, j),
+        |i, b| integrands::evaluate(term, x, parts.at(i), b, test_jdet, trial_jdet),
+    );
+}
+
+// Two terms other than curl-curl, first plus second: c·t·r and d·t·r, each with its factor.
+#[inline(always)]
+fn add_outers(
+    entries: &mut [f64; 100],
+    weight: Weight,
+    first: Term,
+    c: f64,
+    second: Term,
+    d: f64,
+    test: Table,
+    trial: Table,
+)
+    requires { (length entries.old ≡ 100) × Covers test × Covers trial }
+    ensures { Added test.entry.dim trial.entry.dim entries.old entries.new (λ (i j : ℕ).
+        weighed weight (factored first (c ⊗ row_of test.entry i 0 ⊗ row_of trial.entry j 0) ⊕ factored second (d ⊗ row_of test.entry i 0 ⊗ row_of trial.entry j 0))) }
+{
+    let mut scaled = [0.0; MOST_DIM];
+    scale_rows(&mut scaled, c, test);
+    let mut more = [0.0; MOST_DIM];
+    scale_rows(&mut more, d, test);
+    add_values(
+        entries,
+        weight,
+        test.dim,
+        trial.dim,
+        |j| trial.get(j, 0),
+        |i, r| {
+            let one = integrands::factored(first, scaled[i] * r);
+            let two = integrands::factored(second, more[i] * r);
+            one + two
+        },
+    );
+}
+
+// Two terms of any kind, first plus second; x and y are their values at the point.
+#[inline(always)]
+fn add_two(
+    entries: &mut [f64; 100],
+    weight: Weight,
+    first: Term,
+    x: KindValue,
+    second: Term,
+    y: KindValue,
+    test: Point,
+    trial: Point,
+)
+    requires { (length entries.old ≡ 100) × Covers test.table × Covers trial.table × (has_curls x ≡ true → (3 ≤ test.table.rows) × (3 ≤ trial.table.rows)) × (has_curls y ≡ true → (3 ≤ test.table.rows) × (3 ≤ trial.table.rows)) }
+    ensures { (k : ℕ → Float) → ValueOfKind (kind_of first) k test.entry.geometry trial.entry.geometry x
+        → ValueOfKind (kind_of second) k test.entry.geometry trial.entry.geometry y
+        → Added test.entry.table.dim trial.entry.table.dim entries.old entries.new (λ (i j : ℕ).
+        weighed weight (term_value first k (row_of test.entry.table i) (row_of trial.entry.table j) test.entry.geometry trial.entry.geometry
+        ⊕ term_value second k (row_of test.entry.table i) (row_of trial.entry.table j) test.entry.geometry trial.entry.geometry)) }
+{
+    let mut parts = NO_PARTS;
+    bring_parts(&mut parts, x, test);
+    let mut more = NO_PARTS;
+    bring_parts(&mut more, y, test);
+    let test_jdet = test.geometry.jdet;
+    let trial_jdet = trial.geometry.jdet;
+    add_values(
+        entries,
+        weight,
+        test.table.dim,
+        trial.table.dim,
+        |j| {
+            (
+                integrands::trial_part(x, trial, j),
+                integrands::trial_part(y, trial, j),
+            )
+        },
+        |i, b| {
+            let one = integrands::evaluate(first, x, parts.at(i), b.0, test_jdet, trial_jdet);
+            let two = integrands::evaluate(second, y, more.at(i), b.1, test_jdet, trial_jdet);
+            one + two
+        },
+    );
+}
+
+// How an integrand is added at a pair of points.
+pub trait AddPoint {
+    // The integrand, and what has to hold of it.
+    ghost integrand: { Self → Integrand };
+
+    ghost suits: { Self → Type 0 };
+
+    // What a test point and a trial point add to each entry. Their kernel values stand from `at` on.
+    fn add(
+        &self,
+        entries: &mut [f64; 100],
+        weight: Weight,
+        kernel: &[f64],
+        at: usize,
+        test: Point,
+        trial: Point,
+    )
+        requires { (length entries.old ≡ 100) × suits self.now × PairReads (integrand self.now) kernel.now at test trial }
+        ensures { Added test.entry.table.dim trial.entry.table.dim entries.old entries.new (pair_sum (integrand self.now) weight kernel.now at test.entry trial.entry) };
+}
+
+// A term's form, known to the compiler: without a factor, or with one.
+pub trait Form: Copy {
+    ghost term: { Self → ℕ → Term };
+
+    fn term(&self, kind: u32) -> Term
+        ensures { result ≡ term self.now kind };
+}
+
+#[derive(Clone, Copy)]
+pub struct Bare;
+
+impl Form for Bare {
+    ghost term = { λ s kind. Variants.Bare kind };
+
+    #[inline(always)]
+    fn term(&self, kind: u32) -> Term {
+        Term::Bare(kind)
+    }
+}
+
+#[derive(Clone, Copy)]
+pub struct Scaled {
+    pub factor: f64,
+}
+
+impl Form for Scaled {
+    ghost term = { λ s kind. Variants.Scaled s.factor kind };
+
+    #[inline(always)]
+    fn term(&self, kind: u32) -> Term {
+        Term::Scaled(self.factor, kind)
+    }
+}
+
+// One term other than curl-curl.
+#[derive(Clone, Copy)]
+pub struct Outer<F> {
+    pub integrand: Integrand,
+    pub form: F,
+}
+
+impl<F: Form> AddPoint for Outer<F> {
+    ghost integrand = { λ s. s.integrand };
+
+    ghost suits = { λ s. (s.integrand.terms ≡ 1) × (F.term s.form (kind_of s.integrand.first) ≡ s.integrand.first) × (table_rows s.integrand ≡ 3 → ⊥) };
+
+    #[inline(always)]
+    fn add(
+        &self,
+        entries: &mut [f64; 100],
+        weight: Weight,
+        kernel: &[f64],
+        at: usize,
+        test: Point,
+        trial: Point,
+    ) {
+        let f = self.integrand;
+        let kind = integrands::kind_of(f.first);
+        let first = self.form.term(kind);
+        let x = integrands::kind_value(kind, kernel, at, test.geometry, trial.geometry);
+        add_outer(entries, weight, first, x.factor(), test.table, trial.table);
+    }
+}
+
+// One term with curls.
+#[derive(Clone, Copy)]
+pub struct Curls<F> {
+    pub integrand: Integrand,
+    pub form: F,
+}
+
+impl<F: Form> AddPoint for Curls<F> {
+    ghost integrand = { λ s. s.integrand };
+
+    ghost suits = { λ s. (s.integrand.terms ≡ 1) × (F.term s.form (kind_of s.integrand.first) ≡ s.integrand.first) × (table_rows s.integrand ≡ 3) };
+
+    #[inline(always)]
+    fn add(
+        &self,
+        entries: &mut [f64; 100],
+        weight: Weight,
+        kernel: &[f64],
+        at: usize,
+        test: Point,
+        trial: Point,
+    ) {
+        let f = self.integrand;
+        let kind = integrands::kind_of(f.first);
+        let first = self.form.term(kind);
+        let x = integrands::kind_value(kind, kernel, at, test.geometry, trial.geometry);
+        let curls = KindValue::Curls(x.factor());
+        add_curls(entries, weight, first, curls, test, trial);
+    }
+}
+
+// Two terms other than curl-curl.
+#[derive(Clone, Copy)]
+pub struct Outers {
+    pub integrand: Integrand,
+}
+
+impl AddPoint for Outers {
+    ghost integrand = { λ s. s.integrand };
+
+    ghost suits = { λ s. (s.integrand.terms ≡ 1 → ⊥) × (table_rows s.integrand ≡ 3 → ⊥) };
+
+    #[inline(always)]
+    fn add(
+        &self,
+        entries: &mut [f64; 100],
+        weight: Weight,
+        kernel: &[f64],
+        at: usize,
+        test: Point,
+        trial: Point,
+    ) {
+        let f = self.integrand;
+        let first = f.first;
+        let x = integrands::kind_value(
+            integrands::kind_of(first),
+            kernel,
+            at,
+            test.geometry,
+            trial.geometry,
+        );
+        let second = f.second;
+        let y = integrands::kind_value(
+            integrands::kind_of(second),
+            kernel,
+            at,
+            test.geometry,
+            trial.geometry,
+        );
+        add_outers(
+            entries,
+            weight,
+            first,
+            x.factor(),
+            second,
+            y.factor(),
+            test.table,
+            trial.table,
+        );
+    }
+}
+
+// Two terms, of which one has curls or both have.
+#[derive(Clone, Copy)]
+pub struct Two {
+    pub integrand: Integrand,
+}
+
+impl AddPoint for Two {
+    ghost integrand = { λ s. s.integrand };
+
+    ghost suits = { λ s. s.integrand.terms ≡ 1 → ⊥ };
+
+    #[inline(always)]
+    fn add(
+        &self,
+        entries: &mut [f64; 100],
+        weight: Weight,
+        kernel: &[f64],
+        at: usize,
+        test: Point,
+        trial: Point,
+    ) {
+        let f = self.integrand;
+        let first = f.first;
+        let x = integrands::kind_value(
+            integrands::kind_of(first),
+            kernel,
+            at,
+            test.geometry,
+            trial.geometry,
+        );
+        let second = f.second;
+        let y = integrands::kind_value(
+            integrands::kind_of(second),
+            kernel,
+            at,
+            test.geometry,
+            trial.geometry,
+        );
+        add_two(entries, weight, first, x, second, y, test, trial);
+    }
 }

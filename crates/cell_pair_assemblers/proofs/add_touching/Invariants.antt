@@ -1,0 +1,8 @@
+-- `cell_pair_assemblers::add_touching` meets its contract: the invariant is that the entries are the sums of the points passed. Assumes nothing.
+use Rattle.integrands.specs.Columns.{Held}
+use Rattle.lent_numbers.specs.Forms.{touching_of}
+use Rattle.cell_pair_assemblers.specs.Facts.{touching_sum}
+use Rattle.cell_pair_assemblers.proofs.add_touching.Given as goal
+
+abbrev pub invariant-loop-q : goal.invariant-loop-q
+invariant-loop-q g l = Held l.test_dim l.trial_dim l.entries (λ i j. touching_sum l.fn.f (touching_of l.lent) i j l.q)

@@ -1,0 +1,27 @@
+-- `point_sums::Outers` adds its two terms: neither kind is 3. Assumes nothing.
+use Rattle.std.proofs.Common.{◌∙◌, ap, ap₂}
+use Rattle.numbers.specs.Floats.{◌⊕◌}
+use Rattle.integrands.specs.Columns.{first_reads, second_reads}
+use Rattle.integrands.specs.ValueFacts.{two_terms, term_outer, second_is_read}
+use Rattle.point_sums.specs.Facts.{added_as, first_other, second_other}
+use Rattle.point_sums.specs.Weights.{weighed}
+use Rattle.point_sums.proofs.OutersAddPoint.add.Goals as goal
+
+pub kind_value-x-requires : goal.kind_value-x-requires
+kind_value-x-requires c = rw c.kind_of.ensures (first_reads c.args.self.now.integrand c.requires.2.right c.requires.2.kernel)
+
+pub kind_value-y-requires : goal.kind_value-y-requires
+kind_value-y-requires c =
+    rw c.kind_of-2.ensures (second_reads c.args.self.now.integrand c.requires.2.right c.requires.2.kernel (second_is_read c.args.self.now.integrand c.requires.1.0))
+
+pub returns : goal.returns
+returns c =
+    let f = c.args.self.now.integrand in
+    let at = rw c.kind_of.ensures at c.kind_value-x.ensures in
+    let bt = rw c.kind_of-2.ensures at c.kind_value-y.ensures in
+    let sums = rw (c.factor.ensures, c.factor-2.ensures) at c.add_outers.ensures in
+    added_as sums (λ i j. ap (weighed c.args.weight)
+    (ap₂ ◌⊕◌
+    (term_outer f.first _ _ _ c.args.test.geometry c.args.trial.geometry (first_other f c.requires.1.1) at)
+    (term_outer f.second _ _ _ c.args.test.geometry c.args.trial.geometry (second_other f (second_is_read f c.requires.1.0) c.requires.1.1) bt)
+    ∙ two_terms f _ _ _ _ _ c.requires.1.0))

@@ -1,0 +1,17 @@
+-- `point_sums::add_outers` meets its contract: what the closures give at each entry. Assumes nothing.
+use Rattle.std.proofs.Common.{◌≡◌, refl, rules}
+use Rattle.numbers.specs.Floats.{◌⊕◌, ◌⊗◌, ◌!◌}
+use Rattle.table.specs.Views.{row_of}
+use Rattle.integrands.specs.Parts.{factored}
+use Rattle.integrands.specs.Columns.{table_reach}
+use Rattle.point_sums.proofs.add_outers.Goals as goal
+
+pub add_values-requires-clause-may_bring : goal.add_values-requires-clause-may_bring
+add_values-requires-clause-may_bring c = λ j l. let reach = table_reach c.requires.2 j l in search rules
+
+pub returns : goal.returns
+returns c =
+    c.add_values.ensures _ (λ i j t x li lj b v.
+    let row : t ≡ row_of c.args.trial j 0 = search rules in
+    let value : x ≡ factored c.args.first (c.scale_rows.new.scaled ! i ⊗ t) ⊕ factored c.args.second (c.scale_rows-2.new.scaled ! i ⊗ t) = search rules in
+    rw (value, row, c.scale_rows.ensures i li, c.scale_rows-2.ensures i li) refl)
