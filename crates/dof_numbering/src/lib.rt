@@ -27,17 +27,6 @@ enum Dimension {
 }
 
 impl Dimension {
-    // Its number in an owner record.
-    fn number(self) -> u32
-        ensures { result ≡ dimension_number self }
-    {
-        match self {
-            Dimension::Vertex => 0,
-            Dimension::Edge => 1,
-            Dimension::Cell => 2,
-        }
-    }
-
     // Where the first number of entity x is kept: a place for each vertex, then for each edge, then for each cell.
     fn slot(self, x: u32) -> usize
         ensures { result ≡ slot (dimension_number self) x }
@@ -71,8 +60,8 @@ fn write_owners(owners: &mut [u32], at: usize, dimension: u32, x: u32, m: u32)
     }
 }
 
-// Where the walk stands: the first number of each entity met so far, at its slot (0: not met yet, else 1 more than the number); the two lists; the next place in
-// the DOF list, and the next free number.
+// Where the walk stands: the first number of each entity met so far, at its slot (0: not met yet, else 1 more than the number, since the fixed memory of a list of
+// Options would be twice as much); the two lists; the next place in the DOF list, and the next free number.
 #[derive(Drop)]
 struct DofWalk<'a> {
     met: &'a mut [u32; MOST_ENTITIES],
@@ -98,7 +87,7 @@ impl<'a> DofWalk<'a> {
             let n = self.free;
             self.met[i] = n + 1;
             self.free = n + m;
-            write_owners(self.owners, 3 * wide(n), dimension.number(), x, m);
+            write_owners(self.owners, 3 * wide(n), dimension as u32, x, m);
             write_numbers(self.dofs, at, n, m);
         } else {
             write_numbers(self.dofs, at, seen - 1, m);

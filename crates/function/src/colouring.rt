@@ -90,28 +90,7 @@ fn colour_grouped(rows: Rows, groups: Groups, colours: &mut [u32])
     }
 }
 
-// The colours of all cells, by the entities of one list, which are below top, by way of three lists: the rows, the cells by entity and where each entity's end,
-// which are zero at first.
-fn colour_sorted(
-    kinds: &[u8],
-    list: &[u32],
-    top: u32,
-    rows: &mut [u32],
-    order: &mut [u32],
-    ends: &mut [usize],
-    colours: &mut [u32],
-)
-    requires listed { Listed top kinds.now list.now colours.old }
-    requires rows_len { (length rows.old ≡ 4 * length kinds.now) × (length order.old ≡ 4 * length kinds.now) × (length ends.old ≡ top + 1) }
-    requires zeros { Zeros ends.old }
-    ensures { colours.new ≡ colours_to (share_in kinds.now list.now) (length colours.old) }
-{
-    write_rows(kinds, list, top, rows);
-    by_key(rows, 4, ends, order);
-    colour_grouped(Rows { rows, none: top }, Groups { order, ends }, colours);
-}
-
-// The same. The three lists are alive here alone.
+// The colours of all cells, by the entities of one list, which are below top. The rows and the cells by entity are alive here alone.
 fn colour_cells(kinds: &[u8], list: &[u32], top: u32, colours: &mut [u32])
     requires { Listed top kinds.now list.now colours.old }
     ensures { colours.new ≡ colours_to (share_in kinds.now list.now) (length colours.old) }
@@ -121,15 +100,12 @@ fn colour_cells(kinds: &[u8], list: &[u32], top: u32, colours: &mut [u32])
     let mut rows = [0; 4 * MOST_CELLS];
     let mut order = [0; 4 * MOST_CELLS];
     let mut ends = [0; MOST_EDGES + 1];
-    colour_sorted(
-        kinds,
-        list,
-        top,
-        &mut rows[..n],
-        &mut order[..n],
-        &mut ends[..groups],
-        colours,
-    );
+    let rows = &mut rows[..n];
+    let order = &mut order[..n];
+    let ends = &mut ends[..groups];
+    write_rows(kinds, list, top, rows);
+    by_key(rows, 4, ends, order);
+    colour_grouped(Rows { rows, none: top }, Groups { order, ends }, colours);
 }
 
 // All colours 0: no two cells share.

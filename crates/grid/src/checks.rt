@@ -1,6 +1,6 @@
 // Checks 1, 26, 2 and 3 of a mesh, in their order.
 ghost use Rattle.std.specs.Prelude.{◌≡◌, ◌≤◌, true, [], ◌∷◌, length, eqb};
-ghost use Rattle.lists.specs.Bool.{every};
+ghost use Rattle.lists.specs.Bool.{◌and◌, every};
 ghost use Rattle.lists.specs.Bounded.{all};
 ghost use Rattle.lists.specs.Refusals.{refusal};
 ghost use Rattle.numbers.specs.Ranges.{within, all_below};
@@ -47,6 +47,13 @@ fn all_distinct(kinds: &[u8], vertices: &[u32]) -> bool
     true
 }
 
+// Whether the count of vertices or of edges is in its range, and each number is below it.
+fn numbers_right(most: usize, count: u32, numbers: &[u32]) -> bool
+    ensures { result ≡ (within 3 most count and all_below numbers.now count) }
+{
+    (3..=most).contains(&wide(count)) & all_below(numbers, count)
+}
+
 // Check 2, of a mesh that passes checks 1 and 26.
 fn vertices_right(vertices: u32, kinds: &[u8], cell_vertices: &[u32]) -> bool
     requires { Shaped kinds.now cell_vertices.now }
@@ -55,9 +62,7 @@ fn vertices_right(vertices: u32, kinds: &[u8], cell_vertices: &[u32]) -> bool
         ∷ all (length kinds.now) (λ i. distinct (part own kinds.now cell_vertices.now i))
         ∷ []) }
 {
-    (3..=MOST_VERTICES).contains(&wide(vertices))
-        & all_below(cell_vertices, vertices)
-        & all_distinct(kinds, cell_vertices)
+    numbers_right(MOST_VERTICES, vertices, cell_vertices) & all_distinct(kinds, cell_vertices)
 }
 
 // Check 3 but for the edge rule.
@@ -68,9 +73,7 @@ fn edges_sized(edges: u32, kinds: &[u8], cell_edges: &[u32]) -> bool
         ∷ all_below cell_edges.now edges
         ∷ []) }
 {
-    (3..=MOST_EDGES).contains(&wide(edges))
-        & (cell_edges.len() == count_places(kinds))
-        & all_below(cell_edges, edges)
+    numbers_right(MOST_EDGES, edges, cell_edges) & (cell_edges.len() == count_places(kinds))
 }
 
 // Check 3, of a mesh that passes checks 1, 26 and 2.

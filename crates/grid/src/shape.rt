@@ -19,7 +19,7 @@ use numbers::wide;
 // The most vertices of a cell, and the most edges.
 pub(crate) const MOST_CORNERS: usize = 4;
 
-// The number of vertices of a cell of a kind, and of edges.
+// The number of vertices of a cell of a kind, and of edges. A kind is a byte, since C lends the list of kinds as bytes.
 pub fn corners_of(kind: u8) -> usize
     ensures { (result ≡ kind) × (result < 256) }
 {

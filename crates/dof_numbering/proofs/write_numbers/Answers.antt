@@ -1,6 +1,5 @@
 -- See Invariants.antt. Assumes nothing.
-use native.Mathlib.Omega.{arith}
-use mathlib.Core.Path.{◌≡◌, refl}
+use mathlib.Core.Path.{refl}
 use lib.ListN.{length-set}
 use Rattle.dof_numbering.specs.Numbering.{up_from}
 use Rattle.dof_numbering.proofs.Walk.{numbers_step}
@@ -14,8 +13,3 @@ loop-i-init c = (search rules, search rules, refl)
 pub loop-i-preserved : goal.loop-i-preserved
 loop-i-preserved c =
     (search rules, simp length-set c.loop-i.invariant.1, numbers_step _ _ _ _ _ _ c.loop-i.invariant.2 c.wide.ensures)
-
-pub returns : goal.returns
-returns c =
-    let e : c.loop-i.i ≡ c.args.m = omega arith in
-    rw (← e) c.loop-i.invariant.2

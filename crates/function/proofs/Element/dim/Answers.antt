@@ -10,18 +10,6 @@ product n x hn hx =
     let a : n * x ≤ 255 * x = mul-le-mul_right x (omega arith) in
     omega (arith, a)
 
-pub overflow_mul-result : goal.overflow_mul-result
-overflow_mul-result c = omega (arith, product c.corners_of-n.result c.wide.result (omega (arith, c.corners_of-n.ensures)) (omega (arith, c.wide.ensures)))
-
-pub overflow_mul-result-2 : goal.overflow_mul-result-2
-overflow_mul-result-2 c = omega (arith, product c.corners_of-n.result c.wide-2.result (omega (arith, c.corners_of-n.ensures)) (omega (arith, c.wide-2.ensures)))
-
-pub overflow_add-result : goal.overflow_add-result
-overflow_add-result c = omega (arith, product c.corners_of-n.result c.wide-2.result (omega (arith, c.corners_of-n.ensures)) (omega (arith, c.wide-2.ensures)), product c.corners_of-n.result c.wide.result (omega (arith, c.corners_of-n.ensures)) (omega (arith, c.wide.ensures)))
-
-pub overflow_add-result-2 : goal.overflow_add-result-2
-overflow_add-result-2 c = omega (arith, c.wide-3.ensures, product c.corners_of-n.result c.wide-2.result (omega (arith, c.corners_of-n.ensures)) (omega (arith, c.wide-2.ensures)), product c.corners_of-n.result c.wide.result (omega (arith, c.corners_of-n.ensures)) (omega (arith, c.wide.ensures)))
-
 pub returns : goal.returns
 unfolding dim_of
 returns c = rw (c.corners_of-n.ensures.0, c.wide.ensures, c.wide-2.ensures, c.wide-3.ensures)

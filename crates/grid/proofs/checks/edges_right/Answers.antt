@@ -3,11 +3,8 @@ use mathlib.Core.Path.{sym, ◌∙◌}
 use Rattle.grid.specs.EdgeRule.{numbered, edges_right_by, edges_right_not}
 use Rattle.grid.proofs.checks.edges_right.Goals as goal
 
-pub edges_sized-requires : goal.edges_sized-requires
-edges_sized-requires c = c.requires.shaped.0.few
-
-pub keeps_edge_rule-requires : goal.keeps_edge_rule-requires
-keeps_edge_rule-requires c = record { shaped = c.requires.shaped; numbered = numbered c.requires.shaped.0 c.requires.shaped.1 _ _ (sym c.edges_sized.ensures ∙ c.if-edges_sized.true) }
+pub keeps_edge_rule-requires-clause-numbered : goal.keeps_edge_rule-requires-clause-numbered
+keeps_edge_rule-requires-clause-numbered c = numbered c.requires.shaped.0 c.requires.shaped.1 _ _ (sym c.edges_sized.ensures ∙ c.if-edges_sized.true)
 
 pub returns-then-edges_sized : goal.returns-then-edges_sized
 returns-then-edges_sized c = edges_right_by _ c.requires.shaped.0 c.requires.shaped.1 c.requires.kinds_len (sym c.edges_sized.ensures ∙ c.if-edges_sized.true) c.keeps_edge_rule.ensures

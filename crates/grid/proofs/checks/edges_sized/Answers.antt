@@ -1,12 +1,25 @@
--- `grid::checks::edges_sized` meets its contract: `&` of the three tests is `_and_`. Assumes nothing.
-use mathlib.Core.Path.{◌∙◌}
+-- `grid::checks::edges_sized` meets its contract: `&` of the tests is `_and_`. Assumes nothing.
+use mathlib.Core.Bool.{Bool, true, false, ◌&&◌}
+use mathlib.Core.List.{[], ◌∷◌}
+use mathlib.Core.Path.{◌≡◌, refl}
+use lib.Dec.{eqb}
+use lib.ListN.{length}
 use Rattle.lists.specs.Bool.{◌and◌, every}
-use Rattle.numbers.specs.Ranges.{contains_within}
+use Rattle.numbers.specs.Ranges.{within, all_below}
+use Rattle.grid.specs.Cells.{before, own}
 use Rattle.grid.specs.Mesh.{most_edges}
 use Rattle.grid.proofs.checks.edges_sized.Goals as goal
 
-pub returns : goal.returns
+swapped : (a b c : Bool) → ((a and c) && b) ≡ every (a ∷ b ∷ c ∷ [])
 unfolding every ◌and◌
+swapped true true true = refl
+swapped true true false = refl
+swapped true false true = refl
+swapped true false false = refl
+swapped false b c = refl
+
+pub returns : goal.returns
 returns c =
-    let range = rw (c.new.ensures.start, c.new.ensures.end, c.new.ensures.exhausted, c.wide.ensures) at c.contains.ensures.value ∙ contains_within 3 most_edges c.args.edges in
-    rw (c.all_below.ensures, c.count_places.ensures, range)
+    let kinds = c.args.kinds.now in
+    rw (c.count_places.ensures, c.numbers_right.ensures)
+    (swapped (within 3 most_edges c.args.edges) (eqb (length c.args.cell_edges.now) (before own kinds (length kinds))) (all_below c.args.cell_edges.now c.args.edges))

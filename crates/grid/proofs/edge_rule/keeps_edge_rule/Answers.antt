@@ -13,8 +13,8 @@ scratch n h = length-take-le n (replicate 8192 0) (omega (arith, length-replicat
 pub slice_bounds-places-end : goal.slice_bounds-places-end
 slice_bounds-places-end c = omega (arith, shaped_few c.requires.shaped.0)
 
-pub slice_bounds-agree_by-end : goal.slice_bounds-agree_by-end
-slice_bounds-agree_by-end c = sym (scratch _ (shaped_few c.requires.shaped.0))
+pub slice_bounds-places-end-2 : goal.slice_bounds-places-end-2
+slice_bounds-places-end-2 c = sym (scratch _ (shaped_few c.requires.shaped.0))
 
-pub agree_by-requires : goal.agree_by-requires
-agree_by-requires c = record { shaped = c.requires.shaped; places_len = scratch _ (shaped_few c.requires.shaped.0); numbered = c.requires.numbered }
+pub write_keys-requires-clause-keys_len : goal.write_keys-requires-clause-keys_len
+write_keys-requires-clause-keys_len c = scratch _ (shaped_few c.requires.shaped.0)

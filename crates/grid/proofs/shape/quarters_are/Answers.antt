@@ -3,7 +3,6 @@ use native.Mathlib.Omega.{arith}
 use mathlib.Core.Path.{◌≡◌, sym, ◌∙◌}
 use Rattle.lists.specs.Bounded.{all_none}
 use Rattle.grid.specs.KindsFacts.{quarters_more, quarters_all}
-use borrow.Author.Rules.{rules}
 use Rattle.grid.proofs.shape.quarters_are.Goals as goal
 
 pub loop-i-init : goal.loop-i-init

@@ -1,5 +1,4 @@
 -- `grid::shape::quarters_are` meets its contract. The invariant: what is found of the cells passed. Assumes nothing.
-use Prim.Native.Nat.{◌-◌, ◌≤◌}
 use mathlib.Core.Path.{◌≡◌}
 use lib.ListN.{get_or}
 use lib.Dec.{eqb}

@@ -1,6 +1,6 @@
 -- See Invariants.antt. Assumes nothing.
 use native.Mathlib.Omega.{arith}
-use Rattle.grid.specs.CellsFacts.{begins_inside, begins_few, shaped_few}
+use Rattle.grid.specs.CellsFacts.{begins_inside, shaped_few}
 use Rattle.grid.specs.RowsFacts.{rowed_none, rowed_more, rowed_all}
 use borrow.Author.Rules.{rules}
 use Rattle.grid.proofs.shape.write_rows.Goals as goal
@@ -16,10 +16,6 @@ offset_bounds-list-at c = omega (arith, begins_inside c.requires.0 c.loop-i.inva
 
 pub slice_bounds-write_row-end : goal.slice_bounds-write_row-end
 slice_bounds-write_row-end c = omega (arith, c.end_of-end.ensures, begins_inside c.requires.0 c.loop-i.invariant.begins (search rules), shaped_few c.requires.0)
-
-pub write_row-requires : goal.write_row-requires
-write_row-requires c =
-    record { in_bounds = begins_few c.requires.0 c.loop-i.invariant.begins (search rules) c.end_of-end.ensures; at_in_bounds = omega (arith, c.loop-i.invariant.long, c.requires.1) }
 
 pub loop-i-preserved : goal.loop-i-preserved
 loop-i-preserved c =
