@@ -6,6 +6,7 @@ ghost use Rattle.lists.specs.Bool.{◌or◌};
 ghost use Rattle.lists.specs.Bounded.{all};
 ghost use Rattle.numbers.specs.Ranges.{all_below};
 ghost use Rattle.grid.specs.Cells.{before, own, has, distinct, ends_of, same_two, edge_joining};
+ghost use Rattle.grid.specs.EdgesFacts.{edge_pairs};
 ghost use Rattle.grid.specs.CellsFacts.{Shaped};
 ghost use Rattle.grid.specs.Rows.{entity, row, rows_of, cell_in, fourth_or_first};
 ghost use Rattle.grid.specs.RowsFacts.{filled};
@@ -199,57 +200,38 @@ fn joins(p: u32, q: u32, a: u32, b: u32) -> bool
     ((p == a) & (q == b)) | ((p == b) & (q == a))
 }
 
+// The two local vertices that each local edge joins.
+const TRIANGLE_EDGES: [(u32, u32); 3] = [(1, 2), (0, 2), (0, 1)];
+
+const QUAD_EDGES: [(u32, u32); 4] = [(0, 1), (0, 2), (1, 3), (2, 3)];
+
+// Those of a cell of kind n, 3 or 4.
+fn edges_of(n: u32) -> &'static [(u32, u32)]
+    ensures { result.now ≡ edge_pairs n }
+{
+    if n == 3 { &TRIANGLE_EDGES } else { &QUAD_EDGES }
+}
+
 // The local edge of a cell of kind n, 3 or 4, that joins local vertices a and b; n where none does.
 pub fn edge_joining(n: u32, a: u32, b: u32) -> u32
     requires { (3 ≤ n) × (n ≤ 4) }
     ensures { (result ≡ edge_joining n a b) × (result ≤ 4) }
 {
-    if n == 3 {
-        if joins(1, 2, a, b) {
-            return 0;
+    for (e, &(p, q)) in edges_of(n).iter().enumerate() {
+        if joins(p, q, a, b) {
+            return e as u32;
         }
-        if joins(0, 2, a, b) {
-            return 1;
-        }
-        if joins(0, 1, a, b) {
-            return 2;
-        }
-        return 3;
     }
-    if joins(0, 1, a, b) {
-        return 0;
-    }
-    if joins(0, 2, a, b) {
-        return 1;
-    }
-    if joins(1, 3, a, b) {
-        return 2;
-    }
-    if joins(2, 3, a, b) {
-        return 3;
-    }
-    4
+    n
 }
 
 // The second local vertex of local edge e of a cell of kind n; 0 where there is no such edge.
 pub fn second_of(n: u32, e: u32) -> u32
     ensures { result ≡ (ends_of n e).second }
 {
-    if n == 3 {
-        match e {
-            0 => 2,
-            1 => 2,
-            2 => 1,
-            _ => 0,
-        }
-    } else {
-        match e {
-            0 => 1,
-            1 => 2,
-            2 => 3,
-            3 => 3,
-            _ => 0,
-        }
+    match edges_of(n).get(wide(e)) {
+        Some(&(_, q)) => q,
+        None => 0,
     }
 }
 

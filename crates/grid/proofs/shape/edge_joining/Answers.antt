@@ -1,32 +1,25 @@
--- `grid::shape::edge_joining` meets its contract: each return has the tests that led there. Assumes nothing.
+-- See Invariants.antt. Assumes nothing.
 use native.Mathlib.Omega.{arith}
-use mathlib.Core.Path.{sym, ◌∙◌}
-use Rattle.grid.specs.EdgesFacts.{is_four, joining_three, joining_four}
+use mathlib.Core.Path.{sym, ap, ◌∙◌}
+use lib.ListN.{length}
+use Rattle.lists.specs.Bounded.{least_is, least_none}
+use Rattle.grid.specs.Cells.{edge_joining}
+use Rattle.grid.specs.EdgesFacts.{length_pairs, pair_at}
 use Rattle.grid.proofs.shape.edge_joining.Goals as goal
 
 pub returns-then-joins : goal.returns-then-joins
-returns-then-joins c = let a = c.args in (sym (joining_three a.n a.a a.b c.if-n-eq3.true ∙ rw (sym c.joins.ensures ∙ c.if-joins.true)), omega arith)
-
-pub returns-then-joins-2 : goal.returns-then-joins-2
-returns-then-joins-2 c = let a = c.args in (sym (joining_three a.n a.a a.b c.if-n-eq3.true ∙ rw (sym c.joins.ensures ∙ c.if-joins.false, sym c.joins-then-n-eq3.ensures ∙ c.if-joins-2.true)), omega arith)
-
-pub returns-then-joins-3 : goal.returns-then-joins-3
-returns-then-joins-3 c = let a = c.args in (sym (joining_three a.n a.a a.b c.if-n-eq3.true ∙ rw (sym c.joins.ensures ∙ c.if-joins.false, sym c.joins-then-n-eq3.ensures ∙ c.if-joins-2.false, sym c.joins-then-n-eq3-2.ensures ∙ c.if-joins-3.true)), omega arith)
-
-pub returns-then-n-eq3 : goal.returns-then-n-eq3
-returns-then-n-eq3 c = let a = c.args in (sym (joining_three a.n a.a a.b c.if-n-eq3.true ∙ rw (sym c.joins.ensures ∙ c.if-joins.false, sym c.joins-then-n-eq3.ensures ∙ c.if-joins-2.false, sym c.joins-then-n-eq3-2.ensures ∙ c.if-joins-3.false)), omega arith)
-
-pub returns-then-joins-4 : goal.returns-then-joins-4
-returns-then-joins-4 c = let a = c.args in (sym (joining_four a.n a.a a.b (is_four _ c.requires.0 c.requires.1 c.if-n-eq3.false) ∙ rw (sym c.joins-2.ensures ∙ c.if-joins-4.true)), omega arith)
-
-pub returns-then-joins-5 : goal.returns-then-joins-5
-returns-then-joins-5 c = let a = c.args in (sym (joining_four a.n a.a a.b (is_four _ c.requires.0 c.requires.1 c.if-n-eq3.false) ∙ rw (sym c.joins-2.ensures ∙ c.if-joins-4.false, sym c.joins-3.ensures ∙ c.if-joins-5.true)), omega arith)
-
-pub returns-then-joins-6 : goal.returns-then-joins-6
-returns-then-joins-6 c = let a = c.args in (sym (joining_four a.n a.a a.b (is_four _ c.requires.0 c.requires.1 c.if-n-eq3.false) ∙ rw (sym c.joins-2.ensures ∙ c.if-joins-4.false, sym c.joins-3.ensures ∙ c.if-joins-5.false, sym c.joins-4.ensures ∙ c.if-joins-6.true)), omega arith)
-
-pub returns-then-joins-7 : goal.returns-then-joins-7
-returns-then-joins-7 c = let a = c.args in (sym (joining_four a.n a.a a.b (is_four _ c.requires.0 c.requires.1 c.if-n-eq3.false) ∙ rw (sym c.joins-2.ensures ∙ c.if-joins-4.false, sym c.joins-3.ensures ∙ c.if-joins-5.false, sym c.joins-4.ensures ∙ c.if-joins-6.false, sym c.joins-5.ensures ∙ c.if-joins-7.true)), omega arith)
+unfolding edge_joining
+returns-then-joins c =
+    let n = c.args.n in
+    let k = c.loop-e.e in
+    let items = c.edges_of-p-items.ensures in
+    let long = ap length items ∙ length_pairs n c.requires.0 c.requires.1 in
+    let ends = pair_at n k in
+    let joined = rw (items, ends.0, ends.1) at c.joins.ensures in
+    (sym (least_is n _ k (omega (arith, long)) c.loop-e.invariant (λ _. sym joined ∙ c.if-joins.true)), omega (arith, long, c.requires.1))
 
 pub returns : goal.returns
-returns c = let a = c.args in (sym (joining_four a.n a.a a.b (is_four _ c.requires.0 c.requires.1 c.if-n-eq3.false) ∙ rw (sym c.joins-2.ensures ∙ c.if-joins-4.false, sym c.joins-3.ensures ∙ c.if-joins-5.false, sym c.joins-4.ensures ∙ c.if-joins-6.false, sym c.joins-5.ensures ∙ c.if-joins-7.false)), omega arith)
+unfolding edge_joining
+returns c =
+    let long = ap length c.edges_of-p-items.ensures ∙ length_pairs c.args.n c.requires.0 c.requires.1 in
+    (sym (least_none _ _ (λ k h. c.loop-e.invariant k (omega (arith, long)))), c.requires.1)
