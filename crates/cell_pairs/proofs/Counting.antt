@@ -2,7 +2,7 @@
 use Prim.Native.Nat.{ℕ, ◌+◌, ◌-◌, ◌*◌, ◌<◌, ◌≤◌}
 use Rattle.std.proofs.Math.Nat.{add_comm}
 use Rattle.std.proofs.Common.{arith, ap, ◌∙◌, inl, inr, ⊎_elim, get_or-append-add, eqb-true, ltb-true}
-use Rattle.std.specs.Prelude.{◌≡◌, refl, ◌⊎◌, Bool, true, false, not, get_or, eqb, ltb}
+use Rattle.std.specs.Prelude.{◌≡◌, refl, ◌⊎◌, Bool, true, false, not, get_or, ltb}
 use Rattle.std.proofs.Math.Path.{sym, ap₂, subst}
 use mathlib.Core.List.{List, ◌++◌}
 use Rattle.std.proofs.Math.ListN.{length, length-append, get_or-append}

@@ -1,16 +1,16 @@
 -- Laws of the shared vertices of two cells, as the code makes their list. Assumes nothing.
-use Rattle.std.specs.Prelude.{ℕ, zero, suc, ◌+◌, ◌<◌, ◌≤◌, ◌≡◌, refl, Bool, false, Option, None, Some, length, get_or, take, eqb, MatchOption, ◌||◌}
-use Rattle.std.proofs.Common.{zero-le, add-one, arith, sym, ap₂, subst, ◌∙◌, ⊎_elim, length-append, eqb-true, eq-eqb, ne_eqb, lt-ltb, le-ltb}
+use Rattle.std.specs.Prelude.{ℕ, ◌+◌, ◌<◌, ◌≤◌, ◌≡◌, refl, Bool, false, Option, None, Some, length, get_or, take, eqb, MatchOption, ◌||◌}
+use Rattle.std.proofs.Common.{zero-le, arith, sym, ap₂, subst, ◌∙◌, ⊎_elim, length-append, eqb-true, eq-eqb, ne_eqb, lt-ltb, le-ltb}
 use Rattle.std.proofs.Math.Path.{ap}
 use Rattle.std.specs.Option.{is_some}
 use Rattle.std.specs.List.{AllWithin, HoldsAt}
 use Rattle.std.proofs.Math.Bool.{true}
-use mathlib.Core.List.{List, [], ◌∷◌, ◌++◌, flat_map, append-nil}
+use mathlib.Core.List.{List, [], ◌∷◌, ◌++◌, flat_map}
 use Rattle.std.proofs.lemmas.List.{length-map, map-append}
 use Rattle.std.proofs.lemmas.Bool.{eqb-false}
 use Rattle.std.proofs.Math.Dec.{ltb}
 use Rattle.lists.specs.Bool.{◌or◌, true≢false, cases}
-use Rattle.lists.specs.Bounded.{least, least_is, least_none, least_holds, least_before, lt_or_le, eq_or_ne}
+use Rattle.lists.specs.Bounded.{least, least_is, least_none, least_holds, least_before, lt_or_le}
 use Rattle.lists.specs.Range.{flat_map_pick, AllIn, all_in_append, range, when, flat_map_none, flat_map_range, flat_map_below, flat_map_nil, range_split}
 use Rattle.grid.specs.Cells.{distinct, share}
 use Rattle.grid.specs.CellsFacts.{has_place, has_at, share_which, share_at}

@@ -1,6 +1,6 @@
 -- A loop over the parts of a list, `for part in cells.chunks(size)`, each turn of which writes f of the part: part k is batch k of the list. Assumes nothing.
 use Rattle.std.specs.Prelude.{◌≡◌, ◌+◌, ◌-◌, ◌*◌, ◌/◌, ◌≤◌, ◌<◌, ℕ, zero, suc, length, take, drop}
-use Rattle.std.proofs.Common.{◌∙◌, sym, ap, ap₂, min, arith, div-mul-le_self, mul-le-mul_right, length-drop, take_all}
+use Rattle.std.proofs.Common.{◌∙◌, sym, ap, ap₂, min, arith, div-mul-le_self, mul-le-mul_right, length-drop}
 use Rattle.std.proofs.Math.Path.{refl}
 use Rattle.std.proofs.Math.Nat.{zero-mul}
 use Rattle.std.proofs.lemmas.List.{drop-drop}

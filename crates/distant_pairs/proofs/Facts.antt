@@ -1,16 +1,15 @@
 -- The laws of the distant part. Assumes nothing.
 use Rattle.std.specs.Prelude.{◌≡◌, refl, ◌⊎◌, Bool, false, ◌&&◌, get_or, take, drop, eqb, ltb}
 use Rattle.std.proofs.Math.Path.{sym, ap, ap₂, subst⁻¹}
-use Rattle.std.proofs.Common.{◌∙◌, le_refl, le_of_suc-le-suc, eq-or-lt_of_le, div-mul-le_self, mul-le-mul_left, mul-le-mul_right, arith}
+use Rattle.std.proofs.Common.{◌∙◌, le_refl, le_of_suc-le-suc, eq-or-lt_of_le, mul-le-mul_right, arith}
 use Rattle.std.proofs.Math.Logic.{inl, inr, ⊎_elim}
 use Rattle.std.proofs.Math.Bool.{true}
 use mathlib.Core.List.{List, [], ◌∷◌, ◌++◌, flat_map}
 use Prim.Native.Nat.{ℕ, zero, suc, ◌+◌, ◌-◌, ◌*◌, ◌/◌, ◌≤◌, ◌<◌}
-use Rattle.std.proofs.Math.Nat.{lt-div-mul-add}
 use Rattle.std.proofs.Math.ListN.{length}
 use borrow.Author.Tests.{eq-eqb, ne_eqb, ltb-false}
 use Rattle.lists.specs.Bool.{same_test, and_no_left}
-use Rattle.lists.specs.Bounded.{lt_or_le, eq_or_ne}
+use Rattle.lists.specs.Bounded.{eq_or_ne}
 use Rattle.lists.specs.Range.{range, when, filter, batch, flat_map_nil, flat_map_below, flat_map_filter}
 use Rattle.grid.specs.Cells.{has as has_number, share as share_number}
 use Rattle.grid.specs.CellsFacts.{Shaped, share_which, share_at, has_at, has_place}

@@ -1,7 +1,4 @@
 -- See Invariants.antt. Assumes nothing.
-use mathlib.Core.Path.{refl, ap, ◌∙◌}
-use native.Mathlib.Omega.{arith}
-use Rattle.std.specs.Slice.Iter.{chunks_rest, chunks_size}
 use Rattle.std.proofs.Common.{length-append}
 use Rattle.cell_pairs.specs.WorkList.{distant_colours}
 use Rattle.cells_by_key.specs.GroupsFacts.{cells_batch}

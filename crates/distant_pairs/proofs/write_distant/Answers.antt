@@ -1,6 +1,4 @@
 -- See Invariants.antt. Assumes nothing.
-use mathlib.Core.Path.{refl, ap, ◌∙◌}
-use native.Mathlib.Omega.{arith}
 use Rattle.lists.specs.Writes.{wrote_none, turns_start, turns_room, turns_turn, turns_done}
 use Rattle.distant_pairs.specs.Distant.{distant_kind, distant_parts}
 use Rattle.distant_pairs.proofs.Facts.{no_cells_of}

@@ -1,10 +1,9 @@
 -- See Invariants.antt. Assumes nothing.
 use Prim.Native.Nat.{◌+◌, ◌*◌, ◌<◌}
-use native.Mathlib.Omega.{arith}
 use lib.ListN.{length}
 use Rattle.lists.specs.Writes.{turns_start, turns_room, turns_turn, turns_done}
 use Rattle.distant_pairs.specs.Distant.{half, distant_tests, distant_rest}
-use Rattle.distant_pairs.proofs.Facts.{kind_first, kind_group}
+use Rattle.distant_pairs.proofs.Facts.{kind_group}
 use Rattle.distant_pairs.proofs.write_kinds.Goals as goal
 use Rattle.distant_pairs.proofs.write_kinds.Goals.{In-loop-c, In-loop-d}
 
