@@ -14,7 +14,10 @@ ghost use Rattle.integrands.specs.Parts.{ValueOfKind, has_curls, factored, test_
 ghost use Rattle.integrands.specs.Columns.{Added};
 ghost use Rattle.integrands.specs.Views.{Covers};
 ghost use Rattle.point_sums.specs.Weights.{weighed};
-ghost use Rattle.point_sums.specs.Parts.{Long, part_at};
+ghost use Rattle.integrands.specs.declared.Point.{Point};
+ghost use Rattle.integrands.specs.declared.KindValue.TheVariants as Values;
+ghost use Rattle.point_sums.specs.declared.Parts.{Parts};
+ghost use Rattle.point_sums.specs.Parts.{Long, part_at, Turned};
 ghost use Rattle.point_sums.specs.Reads.{PairReads, pair_sum};
 
 use function::MOST_DIM;
@@ -30,7 +33,7 @@ pub struct Weight {
 
 // What each test basis function brings, number by number: the compiler then works out two at a time.
 #[derive(Clone, Copy)]
-struct Parts {
+pub struct Parts {
     x0: [f64; MOST_DIM],
     x1: [f64; MOST_DIM],
     x2: [f64; MOST_DIM],
@@ -133,23 +136,23 @@ fn add_outer(
     );
 }
 
-// A term with curls; x is its value at the point.
+// A term with curls; c is its kernel value, and parts are the curls of the test basis functions.
 #[inline(always)]
 fn add_curls(
     entries: &mut [f64; 100],
     weight: Weight,
     term: Term,
-    x: KindValue,
+    c: f64,
     test: Point,
+    parts: &Parts,
     trial: Point,
 )
-    requires { (length entries.old ≡ 100) × Covers test.table × Covers trial.table × (has_curls x ≡ true → (3 ≤ test.table.rows) × (3 ≤ trial.table.rows)) }
-    ensures { (k : ℕ → Float) → ValueOfKind (kind_of term) k test.entry.geometry trial.entry.geometry x
+    requires { (length entries.old ≡ 100) × Covers test.table × Covers trial.table × (3 ≤ trial.table.rows) × Turned test parts.now }
+    ensures { (k : ℕ → Float) → ValueOfKind (kind_of term) k test.entry.geometry trial.entry.geometry (Values.Curls c)
         → Added test.entry.table.dim trial.entry.table.dim entries.old entries.new (λ (i j : ℕ).
         weighed weight (term_value term k (row_of test.entry.table i) (row_of trial.entry.table j) test.entry.geometry trial.entry.geometry)) }
 {
-    let mut parts = NO_PARTS;
-    bring_parts(&mut parts, x, test);
+    let x = KindValue::Curls(c);
     let test_jdet = test.geometry.jdet;
     let trial_jdet = trial.geometry.jdet;
     add_values(
@@ -247,6 +250,14 @@ pub trait AddPoint {
 
     ghost suits: { Self → Type 0 };
 
+    // What holds of the parts of a test point.
+    ghost ready: { Self → Point → Parts → Type 0 };
+
+    // What is worked out once for a test point.
+    fn parts(&self, test: Point) -> Parts
+        requires { suits self.now × Covers test.table × (test.table.rows ≡ table_rows (integrand self.now)) }
+        ensures { ready self.now test.entry result };
+
     // What a test point and a trial point add to each entry. Their kernel values stand from `at` on.
     fn add(
         &self,
@@ -255,9 +266,10 @@ pub trait AddPoint {
         kernel: &[f64],
         at: usize,
         test: Point,
+        parts: &Parts,
         trial: Point,
     )
-        requires { (length entries.old ≡ 100) × suits self.now × PairReads (integrand self.now) kernel.now at test trial }
+        requires { (length entries.old ≡ 100) × suits self.now × PairReads (integrand self.now) kernel.now at test trial × ready self.now test parts.now }
         ensures { Added test.entry.table.dim trial.entry.table.dim entries.old entries.new (pair_sum (integrand self.now) weight kernel.now at test.entry trial.entry) };
 }
 
@@ -307,6 +319,13 @@ impl<F: Form> AddPoint for Outer<F> {
 
     ghost suits = { λ s. (s.integrand.terms ≡ 1) × (F.term s.form (kind_of s.integrand.first) ≡ s.integrand.first) × (table_rows s.integrand ≡ 3 → ⊥) };
 
+    ghost ready = { λ s test parts. Long parts };
+
+    #[inline(always)]
+    fn parts(&self, _test: Point) -> Parts {
+        NO_PARTS
+    }
+
     #[inline(always)]
     fn add(
         &self,
@@ -315,6 +334,7 @@ impl<F: Form> AddPoint for Outer<F> {
         kernel: &[f64],
         at: usize,
         test: Point,
+        parts: &Parts,
         trial: Point,
     ) {
         let f = self.integrand;
@@ -337,6 +357,15 @@ impl<F: Form> AddPoint for Curls<F> {
 
     ghost suits = { λ s. (s.integrand.terms ≡ 1) × (F.term s.form (kind_of s.integrand.first) ≡ s.integrand.first) × (table_rows s.integrand ≡ 3) };
 
+    ghost ready = { λ s test parts. Turned test parts };
+
+    #[inline(always)]
+    fn parts(&self, test: Point) -> Parts {
+        let mut parts = NO_PARTS;
+        bring_parts(&mut parts, KindValue::Curls(0.0), test);
+        parts
+    }
+
     #[inline(always)]
     fn add(
         &self,
@@ -345,14 +374,15 @@ impl<F: Form> AddPoint for Curls<F> {
         kernel: &[f64],
         at: usize,
         test: Point,
+        parts: &Parts,
         trial: Point,
     ) {
         let f = self.integrand;
         let kind = integrands::kind_of(f.first);
         let first = self.form.term(kind);
         let x = integrands::kind_value(kind, kernel, at, test.geometry, trial.geometry);
-        let curls = KindValue::Curls(x.factor());
-        add_curls(entries, weight, first, curls, test, trial);
+        let c = x.factor();
+        add_curls(entries, weight, first, c, test, parts, trial);
     }
 }
 
@@ -367,6 +397,13 @@ impl AddPoint for Outers {
 
     ghost suits = { λ s. (s.integrand.terms ≡ 1 → ⊥) × (table_rows s.integrand ≡ 3 → ⊥) };
 
+    ghost ready = { λ s test parts. Long parts };
+
+    #[inline(always)]
+    fn parts(&self, _test: Point) -> Parts {
+        NO_PARTS
+    }
+
     #[inline(always)]
     fn add(
         &self,
@@ -375,6 +412,7 @@ impl AddPoint for Outers {
         kernel: &[f64],
         at: usize,
         test: Point,
+        parts: &Parts,
         trial: Point,
     ) {
         let f = self.integrand;
@@ -418,6 +456,13 @@ impl AddPoint for Two {
 
     ghost suits = { λ s. s.integrand.terms ≡ 1 → ⊥ };
 
+    ghost ready = { λ s test parts. Long parts };
+
+    #[inline(always)]
+    fn parts(&self, _test: Point) -> Parts {
+        NO_PARTS
+    }
+
     #[inline(always)]
     fn add(
         &self,
@@ -426,6 +471,7 @@ impl AddPoint for Two {
         kernel: &[f64],
         at: usize,
         test: Point,
+        parts: &Parts,
         trial: Point,
     ) {
         let f = self.integrand;

@@ -29,6 +29,9 @@ overflow_mul-width g c =
     rw c.kernel_width-width.ensures
     (omega (arith, small_kernel c.args.f (c.loop-t.t + c.args.lent.test.points * c.loop-r.r) (omega (arith, (distant_pair_lem c.requires.0 c.loop-t.t c.loop-r.r c.loop-t-test.true c.loop-r-test.true).1))))
 
+pub parts-parts-requires : goal.parts-parts-requires
+parts-parts-requires g c = rw (c.at-test.ensures, c.table_rows-rows.ensures, c.requires.2) (c.requires.3, distant_test_table c.requires.0 c.loop-t.t c.loop-t-test.true, refl)
+
 pub add-requires : goal.add-requires
 add-requires g c =
     rw (c.at-test.ensures, c.at-trial.ensures, c.table_rows-rows.ensures, c.kernel_width-width.ensures, c.requires.2) (
@@ -42,6 +45,7 @@ add-requires g c =
         trial_rows = refl;
         kernel = distant_kernel c.requires.0 c.loop-t.t c.loop-r.r c.loop-t-test.true c.loop-r-test.true;
       },
+      rw (c.at-test.ensures, c.table_rows-rows.ensures) at c.parts-parts.ensures,
     )
 
 pub loop-r-preserved : goal.loop-r-preserved

@@ -21,6 +21,9 @@ bounds-lent-q g c = (touching_geometry c.requires.0 c.loop-q.q c.loop-q-test.tru
 pub overflow_mul-width : goal.overflow_mul-width
 overflow_mul-width g c = rw c.kernel_width-width.ensures (omega (arith, small_kernel c.args.f c.loop-q.q (omega (arith, c.loop-q-test.true, c.requires.0.count))))
 
+pub parts-parts-requires : goal.parts-parts-requires
+parts-parts-requires g c = rw (c.at-test.ensures, c.test-tests.ensures, c.table_rows-rows.ensures, c.requires.2) (c.requires.3, touching_test_table c.requires.0 c.loop-q.q c.loop-q-test.true, refl)
+
 pub add-requires : goal.add-requires
 add-requires g c =
     rw (c.at-test.ensures, c.at-trial.ensures, c.test-tests.ensures, c.trial-trials.ensures, c.table_rows-rows.ensures, c.kernel_width-width.ensures, c.requires.2) (
@@ -34,6 +37,7 @@ add-requires g c =
         trial_rows = refl;
         kernel = touching_kernel c.requires.0 c.loop-q.q c.loop-q-test.true;
       },
+      rw (c.at-test.ensures, c.test-tests.ensures, c.table_rows-rows.ensures) at c.parts-parts.ensures,
     )
 
 pub loop-q-preserved : goal.loop-q-preserved

@@ -1,7 +1,8 @@
 -- `point_sums::add_curls` meets its contract: what the closures give at each entry. Assumes nothing.
-use Rattle.std.proofs.Common.{◌≡◌, refl, ◌≤◌, true, rules}
+use Rattle.std.proofs.Common.{◌≡◌, ◌≤◌, rules}
 use Rattle.table.specs.Views.{row_of}
-use Rattle.integrands.specs.Parts.{has_curls, factored, trial_part, from_parts}
+use Rattle.integrands.specs.declared.KindValue.TheVariants.{Curls}
+use Rattle.integrands.specs.Parts.{factored, curls, from_parts}
 use Rattle.integrands.specs.Columns.{table_reach}
 use Rattle.integrands.specs.ValueFacts.{term_from}
 use Rattle.point_sums.specs.Parts.{part_at}
@@ -10,16 +11,13 @@ use Rattle.point_sums.proofs.add_curls.Goals as goal
 pub add_values-requires-clause-may_bring : goal.add_values-requires-clause-may_bring
 add_values-requires-clause-may_bring c = λ j l.
     let reach = table_reach c.requires.2 j l in
-    let rows : has_curls c.args.x ≡ true → 3 ≤ c.args.trial.table.rows = λ e. (c.requires.3 e).1 in
+    let rows : 3 ≤ c.args.trial.table.rows = c.requires.3 in
     search rules
-
-pub bring_parts-requires : goal.bring_parts-requires
-bring_parts-requires c = (record { x0 = refl; x1 = refl; x2 = refl }, c.requires.1, λ e. (c.requires.3 e).0)
 
 pub returns : goal.returns
 returns c k at =
     c.add_values.ensures _ (λ i j t x li lj b v.
-    let part : t ≡ trial_part c.args.x c.args.trial.geometry (row_of c.args.trial.table j) = search rules in
-    let value : x ≡ factored c.args.term (from_parts c.args.x (part_at c.bring_parts.new.parts i) t c.args.test.geometry.jdet c.args.trial.geometry.jdet) = search rules in
-    rw (value, part, c.bring_parts.ensures.right i li)
+    let part : t ≡ curls c.args.trial.geometry (row_of c.args.trial.table j) = search rules in
+    let value : x ≡ factored c.args.term (from_parts (Curls c.args.c) (part_at c.args.parts.now i) t c.args.test.geometry.jdet c.args.trial.geometry.jdet) = search rules in
+    rw (value, part, c.requires.4.right i li)
     (term_from c.args.term k (row_of c.args.test.table i) (row_of c.args.trial.table j) c.args.test.geometry c.args.trial.geometry at))
