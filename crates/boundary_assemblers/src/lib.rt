@@ -17,7 +17,7 @@ pub struct Run {
     pub position: u32,
 }
 
-// A cell of record p: its kind, and where its DOFs begin in the DOF list of its side and how many they are.
+// A cell of record p: its kind, a byte as in the kind list that C lends, and where its DOFs begin in the DOF list of its side and how many they are.
 #[derive(Clone, Copy)]
 pub(crate) struct Cell {
     pub kind: u8,

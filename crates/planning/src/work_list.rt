@@ -35,7 +35,7 @@ fn key_of(kind: u8, colour: u32, count: u32) -> u32
     if kind == 4 { colour + count } else { colour }
 }
 
-// Writes the key of each cell.
+// Writes the key of each cell. (The index reads two lists: after a zip of them with iter_mut nothing would be known of the keys.)
 fn write_keys(kinds: &[u8], side: Coloured, keys: &mut [u32])
     requires { Keyable kinds.now side.colours.now side.count keys.old }
     ensures { (i : ℕ) → i < length kinds.now → get_or keys.new i 0 ≡ kind_key side.entry.count kinds.now side.entry.colours.now i }

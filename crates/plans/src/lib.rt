@@ -1,6 +1,8 @@
 // Planning: what it hands back, and in specs/ what it takes, its checks, what it writes, and what holds of every planning that is accepted.
 #![tactic(auto)]
 
+ghost use Rattle.std.specs.Prelude.{◌≡◌};
+
 use function::Elements;
 use integrands::Integrand;
 
@@ -53,4 +55,21 @@ pub struct PlanLists<'a> {
     pub test_owners: &'a mut [u32],
     pub trial_owners: &'a mut [u32],
     pub work: &'a mut [u32],
+}
+
+impl PlanLists<'_> {
+    // The plan that stands in the lists, of a mesh with this kind list.
+    pub fn plan<'a>(&'a self, kinds: &'a [u8]) -> Plan<'a>
+        ensures kinds { result.kinds.now ≡ kinds.now }
+        ensures test_dofs { result.test_dofs.now ≡ self.now.test_dofs.now }
+        ensures trial_dofs { result.trial_dofs.now ≡ self.now.trial_dofs.now }
+        ensures work { result.work.now ≡ self.now.work.now }
+    {
+        Plan {
+            kinds,
+            test_dofs: self.test_dofs,
+            trial_dofs: self.trial_dofs,
+            work: self.work,
+        }
+    }
 }

@@ -1,17 +1,21 @@
 -- The laws that a loop over the calls needs: none played, one more, and all of them beside the machine. Assumes nothing.
 use Rattle.std.specs.Prelude.{ℕ, zero, suc, ◌+◌, ◌-◌, ◌*◌, ◌/◌, ◌≤◌, ◌≡◌, refl, Bool, true, false, cond, length, get_or, set, take, drop, leb, Float}
+use Prim.Native.Nat.{min}
+use Rattle.std.proofs.Math.Nat.{min-eq_left, min-eq_right}
 use Rattle.std.proofs.Common.{div-mul-le_self, add-one, arith, sym, ◌∙◌, length-append, length-take, length-drop}
 use Rattle.std.proofs.Math.Path.{ap}
 use mathlib.Core.List.{List, [], ◌∷◌, ◌++◌, flat_map}
-use Rattle.std.proofs.Math.Seq.{sets}
+use Rattle.std.proofs.Math.Seq.{sets, take-length}
+use Rattle.std.proofs.lemmas.List.Edits.{sets-eq}
+use borrow.Rule.Slice.PartMut.{put_mid}
+use Rattle.std.proofs.lemmas.Slice.{put_mid-paste}
 use borrow.Author.Tests.{leb-true, leb-false, eq-eqb, ne_eqb}
 use Rattle.lists.specs.Fold.{over, over_snoc, list_of}
 use Rattle.lists.specs.Range.{flat_map_append, flat_map_one}
 use Rattle.lists.specs.Stores.{sets_append, sets_front}
-use Rattle.lent_numbers.specs.Lent.{touching, distant}
+use Rattle.lent_numbers.specs.Lent.{Touching, touching, Distant, distant}
 use Rattle.plans.specs.declared.PlanNumbers.{PlanNumbers}
-use Rattle.plans.specs.declared.Planned.TheVariants.{Ready as ready, Refused as not_planned}
-use Rattle.plans.specs.Planning.{Planning, Lists, plan, plan_numbers, plan_answer, plan_refusal, plan_lists, unless_refused}
+use Rattle.plans.specs.Planning.{ready, refused as not_planned, Planning, Lists, plan, plan_numbers, plan_answer, plan_refusal, plan_lists, unless_refused}
 use Rattle.plans.specs.Accepted.{ready_is}
 use Rattle.runs.specs.Runs.{Run, Plan, EntryLists, Reply, Answer, found, accepted, refused, begun, look, add_distant, add_touching, add_entries, distant_matrix, touching_matrix, entries_written}
 use Rattle.runs.specs.Calls.{Call, looks, adds_distant, adds_touching, adds_entries, Progress, reply_to, matrix_after, lists_after, call, call_all}
@@ -58,7 +62,7 @@ unfolding call_all
 length_answers l calls r M e = omega (arith, length_over l calls (record { run = r; matrix = M; lists = e; answers = [] }))
 
 -- four numbers an answer
-four : (a : Answer) → length (answer_numbers a) ≡ 4
+pub four : (a : Answer) → length (answer_numbers a) ≡ 4
 unfolding answer_numbers
 four (found e) = refl
 four accepted = refl
@@ -86,12 +90,37 @@ put_all xs A h = sets_front A (flat_map answer_numbers xs) (omega (arith, length
 abbrev pub standing : Run → List Float → EntryLists → Progress
 standing r M e = record { run = r; matrix = M; lists = e; answers = [] }
 
+-- one call, and its answer as four numbers
+pub record Answered (l : Plan) (c : Call) (s : Progress) (r : Run) (M : List Float) (e : EntryLists) (numbers : List ℕ) : Type 0 where
+  pub run : r ≡ (reply_to l c s).run
+  pub matrix : M ≡ matrix_after l c s
+  pub lists : e ≡ lists_after l c s
+  pub answer : numbers ≡ answer_numbers (reply_to l c s).answer
+
 -- one call: its answer stands from place `at` on
 pub record Stepped (l : Plan) (c : Call) (s : Progress) (A : List ℕ) (at : ℕ) (r : Run) (M : List Float) (e : EntryLists) (A' : List ℕ) : Type 0 where
   pub run : r ≡ (reply_to l c s).run
   pub matrix : M ≡ matrix_after l c s
   pub lists : e ≡ lists_after l c s
   pub answers : A' ≡ sets A at (answer_numbers (reply_to l c s).answer)
+
+pub answered : (l : Plan) (c : Call) (s : Progress) (o : Reply) {M : List Float} {e : EntryLists} {numbers : List ℕ}
+    → o ≡ reply_to l c s → M ≡ matrix_after l c s → e ≡ lists_after l c s → numbers ≡ answer_numbers o.answer → Answered l c s o.run M e numbers
+answered l c s o q m e n =
+    record { run = ap (λ (g : Reply). g.run) q; matrix = m; lists = e; answer = n ∙ ap (λ (g : Reply). answer_numbers g.answer) q }
+
+-- numbers stored over as many
+pub stored_is : (A ys : List ℕ) (at : ℕ) → at + 4 ≤ length A → length ys ≡ 4 → put_mid at ((at + 4) - at) A ys ≡ sets A at ys
+stored_is A ys at room long =
+    let size : (at + 4) - at ≡ 4 = omega arith in
+    rw size
+    (put_mid-paste at 4 A ys ys (length ys) refl long refl
+    ∙ ap (λ (r : List ℕ). take at A ++ r ++ drop (at + length ys) A) (take-length ys)
+    ∙ sym (sets-eq ys A at (omega (arith, long))))
+
+pub stepped : {l : Plan} {c : Call} {s : Progress} {A : List ℕ} {at : ℕ} {r : Run} {M : List Float} {e : EntryLists} {answer A' : List ℕ}
+    → Answered l c s r M e answer → A' ≡ sets A at answer → Stepped l c s A at r M e A'
+stepped h w = record { run = h.run; matrix = h.matrix; lists = h.lists; answers = rw h.answer at w }
 
 -- a list of calls
 pub record Going (l : Plan) (calls : List Call) (s : Progress) (A : List ℕ) (r : Run) (M : List Float) (e : EntryLists) (A' : List ℕ) : Type 0 where
@@ -197,6 +226,14 @@ finished_played x l l' entries calls p M e A r M' e' A' z lists room going =
 
 -- ---- how many calls are played
 
+pub count_is : (calls answers : List ℕ) → min (length calls / 11) (length answers / 4) ≡ call_count calls answers
+unfolding call_count
+count_is calls answers = go (leb (length calls / 11) (length answers / 4)) refl
+  where
+    go : (b : Bool) → leb (length calls / 11) (length answers / 4) ≡ b → min (length calls / 11) (length answers / 4) ≡ cond b (length calls / 11) (length answers / 4)
+    go true e = min-eq_left (leb-true (length calls / 11) (length answers / 4) e)
+    go false e = let more = leb-false (length calls / 11) (length answers / 4) e in min-eq_right (omega arith)
+
 pub count_fits : (calls answers : List ℕ) → (11 * call_count calls answers ≤ length calls) × (4 * call_count calls answers ≤ length answers)
 unfolding call_count
 count_fits calls answers = go (leb (length calls / 11) (length answers / 4)) refl
@@ -211,14 +248,6 @@ count_fits calls answers = go (leb (length calls / 11) (length answers / 4)) ref
         (omega (arith, div-mul-le_self (length calls) 11), omega (arith, div-mul-le_self (length answers) 4))
 
 -- ---- what the code has in hand
-
--- four stores
-pub put_four_is : (A : List ℕ) (at a b c d : ℕ) → set (set (set (set A at a) (at + 1) b) (at + 2) c) (at + 3) d ≡ sets A at (a ∷ b ∷ c ∷ d ∷ [])
-put_four_is A at a b c d =
-    let one : at + 1 ≡ suc at = omega arith in
-    let two : at + 2 ≡ suc (suc at) = omega arith in
-    let three : at + 3 ≡ suc (suc (suc at)) = omega arith in
-    rw (one, two, three)
 
 -- the lists of a call
 pub distant_in_lem : (pool : List Float) (call : List ℕ) (w v a b k s t : List Float) → w ≡ list_in pool call 0 → v ≡ list_in pool call 1 → a ≡ list_in pool call 2
@@ -245,29 +274,22 @@ call_is calls pool k =
     rw size
 
 -- the kind picks the call
-module _ (l : Plan) (pool : List Float) (call : List ℕ) (r : Run) (M : List Float) (e : EntryLists) (A : List ℕ) (at : ℕ) (r' : Run) (A' : List ℕ) (o : Reply)
-    (run : r' ≡ o.run) (stored : A' ≡ sets A at (answer_numbers o.answer)) where
-  pub stepped_look : get_or call 0 0 ≡ 0 → o ≡ look r l → Stepped l (call_of pool call) (standing r M e) A at r' M e A'
-  unfolding call_of reply_to matrix_after lists_after
-  stepped_look k q = rw (eq-eqb (get_or call 0 0) 0 k) (record { run = run ∙ ap (λ (g : Reply). g.run) q; matrix = refl; lists = refl; answers = stored ∙ ap (λ (g : Reply). sets A at (answer_numbers g.answer)) q })
+module _ (pool : List Float) (call : List ℕ) where
+  pub call_looks : get_or call 0 0 ≡ 0 → looks ≡ call_of pool call
+  unfolding call_of
+  call_looks k = rw (eq-eqb (get_or call 0 0) 0 k)
 
-  pub stepped_distant : (M' : List Float) → (get_or call 0 0 ≡ 0 → ⊥) → get_or call 0 0 ≡ 1 → o ≡ add_distant r l M (distant_in pool call)
-      → M' ≡ distant_matrix r l M (distant_in pool call) → Stepped l (call_of pool call) (standing r M e) A at r' M' e A'
-  unfolding call_of reply_to matrix_after lists_after
-  stepped_distant M' k₀ k q w =
-      rw (ne_eqb (get_or call 0 0) 0 k₀, eq-eqb (get_or call 0 0) 1 k) (record { run = run ∙ ap (λ (g : Reply). g.run) q; matrix = w; lists = refl; answers = stored ∙ ap (λ (g : Reply). sets A at (answer_numbers g.answer)) q })
+  pub call_distant : get_or call 0 0 ≡ 1 → {a : Distant} → a ≡ distant_in pool call → adds_distant a ≡ call_of pool call
+  unfolding call_of
+  call_distant k e = rw (k, e)
 
-  pub stepped_touching : (M' : List Float) → (get_or call 0 0 ≡ 0 → ⊥) → (get_or call 0 0 ≡ 1 → ⊥) → get_or call 0 0 ≡ 2 → o ≡ add_touching r l M (touching_in pool call)
-      → M' ≡ touching_matrix r l M (touching_in pool call) → Stepped l (call_of pool call) (standing r M e) A at r' M' e A'
-  unfolding call_of reply_to matrix_after lists_after
-  stepped_touching M' k₀ k₁ k q w =
-      rw (ne_eqb (get_or call 0 0) 0 k₀, ne_eqb (get_or call 0 0) 1 k₁, eq-eqb (get_or call 0 0) 2 k) (record { run = run ∙ ap (λ (g : Reply). g.run) q; matrix = w; lists = refl; answers = stored ∙ ap (λ (g : Reply). sets A at (answer_numbers g.answer)) q })
+  pub call_touching : get_or call 0 0 ≡ 2 → {a : Touching} → a ≡ touching_in pool call → adds_touching a ≡ call_of pool call
+  unfolding call_of
+  call_touching k e = rw (k, e)
 
-  pub stepped_entries : (e' : EntryLists) → (get_or call 0 0 ≡ 0 → ⊥) → (get_or call 0 0 ≡ 1 → ⊥) → (get_or call 0 0 ≡ 2 → ⊥) → o ≡ add_entries r l e (touching_in pool call)
-      → e' ≡ entries_written r l e (touching_in pool call) → Stepped l (call_of pool call) (standing r M e) A at r' M e' A'
-  unfolding call_of reply_to matrix_after lists_after
-  stepped_entries e' k₀ k₁ k₂ q w =
-      rw (ne_eqb (get_or call 0 0) 0 k₀, ne_eqb (get_or call 0 0) 1 k₁, ne_eqb (get_or call 0 0) 2 k₂) (record { run = run ∙ ap (λ (g : Reply). g.run) q; matrix = refl; lists = w; answers = stored ∙ ap (λ (g : Reply). sets A at (answer_numbers g.answer)) q })
+  pub call_entries : (get_or call 0 0 ≡ 0 → ⊥) → (get_or call 0 0 ≡ 1 → ⊥) → (get_or call 0 0 ≡ 2 → ⊥) → {a : Touching} → a ≡ touching_in pool call → adds_entries a ≡ call_of pool call
+  unfolding call_of
+  call_entries k₀ k₁ k₂ e = rw (ne_eqb (get_or call 0 0) 0 k₀, ne_eqb (get_or call 0 0) 1 k₁, ne_eqb (get_or call 0 0) 2 k₂, e)
 
 -- the calls that there is room for, on a run begun from planning's numbers
 pub finished_begun : (x : Planning) (l l' : Lists) (entries : Bool) (calls : List ℕ) (pool : List Float) (n : ℕ) (p : PlanNumbers) (b : Run) (M : List Float) (e : EntryLists)

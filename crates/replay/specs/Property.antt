@@ -1,8 +1,7 @@
 -- What `replay` leaves has the third property, and that of an entries run. Assumes nothing.
 use Rattle.std.specs.Prelude.{ℕ, ◌≡◌, refl, Bool, true, false, List, Float}
 use Rattle.plans.specs.declared.PlanNumbers.{PlanNumbers}
-use Rattle.plans.specs.declared.Planned.TheVariants.{Ready as ready}
-use Rattle.plans.specs.Planning.{Planning, Lists, plan}
+use Rattle.plans.specs.Planning.{ready, Planning, Lists, plan}
 use Rattle.plans.specs.Accepted.{ready_is}
 use Rattle.runs.specs.Runs.{EntryLists}
 use Rattle.runs.specs.Calls.{Call, Progress}

@@ -1,14 +1,18 @@
 -- What `replay` hands back and leaves: the position, the matrix, the entry lists and the answers of the machine of the mesh; nothing is played where planning
 -- refuses. Assumes nothing.
-use Rattle.std.specs.Prelude.{ℕ, zero, suc, Bool, List, Float}
+use Rattle.std.specs.Prelude.{ℕ, zero, suc, Bool, List, Float, Result, Ok, Err}
+use Rattle.refusals.specs.declared.Refusal.{Refusal}
+use Rattle.refusals.specs.Numbers.{number_of}
+use Rattle.lent_numbers.specs.Forms.{touching_of, distant_of}
 use Rattle.plans.specs.Planning.{Planning, Lists, plan_refusal, unless_refused}
 use Rattle.runs.specs.Runs.{Run, EntryLists}
-use Rattle.runs.specs.Calls.{Call}
+use Rattle.runs.specs.Calls.{Call, looks, adds_distant, adds_touching, adds_entries}
 use Rattle.runs.specs.Machine.{State, machine_of, machine_run}
 use Rattle.runs.specs.Beside.{run_at}
+use Rattle.boundary_assemblers.specs.declared.Run.{Run as TheRun}
 use Rattle.boundary_assemblers.specs.Forms.{run_of}
-use Rattle.replay.specs.declared.Replayed.{Replayed}
-use Rattle.replay.specs.declared.Replayed.TheVariants.{Played, Refused}
+use Rattle.replay.specs.declared.Call.{Call as LentCall}
+use Rattle.replay.specs.declared.Call.TheVariants.{Look, AddDistant, AddTouching, AddEntries}
 use Rattle.replay.specs.Encoding.{put_answers}
 
 -- What it answers: the run after the last call, or planning's refusal
@@ -16,10 +20,16 @@ pub data Outcome : Type 0 where
   played : Run → Outcome
   refused : ℕ → Outcome
 
--- for each case of the enum
-abbrev pub outcome_of : Replayed → Outcome
-outcome_of (Played r) = played (run_of r)
-outcome_of (Refused n) = refused n
+abbrev pub outcome_of : Result TheRun Refusal → Outcome
+outcome_of (Ok r) = played (run_of r)
+outcome_of (Err n) = refused (number_of n)
+
+-- a call, by what it is lent
+abbrev pub call_lent : LentCall → Call
+call_lent Look = looks
+call_lent (AddDistant a) = adds_distant (distant_of a)
+call_lent (AddTouching a) = adds_touching (touching_of a)
+call_lent (AddEntries a) = adds_entries (touching_of a)
 
 -- 0 is no refusal
 abbrev pub outcome : ℕ → Run → Outcome

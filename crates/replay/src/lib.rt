@@ -1,27 +1,35 @@
 // Plays a whole list of calls on one run, begun from planning. The calls are encoded as numbers, and their lent lists are parts of one pool.
 #![tactic(auto)]
 
-ghost use Rattle.std.specs.Prelude.{◌≡◌, [], ◌∷◌, ◌+◌, ◌*◌, ◌≤◌, ◌<◌, length};
+ghost use Rattle.std.specs.Prelude.{◌≡◌, ◌+◌, ◌*◌, ◌≤◌, ◌<◌, length};
 ghost use Rattle.std.proofs.lemmas.List.Edits.{sets};
-ghost use Rattle.grid.specs.Mesh.{mesh_with};
-ghost use Rattle.plans.specs.Planning.{lists_of, plan_lists};
+ghost use Rattle.grid.specs.Lent.{mesh_lent};
+ghost use Rattle.lent_numbers.specs.Forms.{touching_of, distant_of};
+ghost use Rattle.plans.specs.Planning.{plan_lists};
+ghost use Rattle.plans.specs.Lent.{lists_lent, SameLists};
 ghost use Rattle.planning.specs.Arguments.{planning_with};
-ghost use Rattle.runs.specs.Runs.{plan_of, entry_lists, begun, add_distant, distant_matrix, add_touching, touching_matrix, add_entries, entries_written};
-ghost use Rattle.boundary_assemblers.specs.Forms.{run_of, looked_of, added_of};
+ghost use Rattle.runs.specs.Runs.{begun, accepted, refused as not_accepted};
+ghost use Rattle.refusals.specs.Numbers.{number_of};
+ghost use Rattle.boundary_assemblers.specs.Forms.{run_of, plan_lent, entries_lent, answer_of, SameLists as SameEntries};
 ghost use Rattle.replay.specs.Encoding.{part_of, list_in, distant_in, touching_in, call_of, calls_of, call_count, answer_numbers};
-ghost use Rattle.replay.specs.Replay.{outcome_of, replayed, replayed_matrix, replayed_lists, replayed_answers};
-ghost use Rattle.replay.specs.Laws.{standing, Stepped, Going};
+ghost use Rattle.replay.specs.Replay.{call_lent, outcome_of, replayed, replayed_matrix, replayed_lists, replayed_answers};
+ghost use Rattle.replay.specs.Laws.{standing, Answered, Going};
 
-use boundary_assemblers::{Added, Looked, Run};
-use grid::Sizes;
+use boundary_assemblers::Run;
+use grid::Mesh;
+use lent_numbers::{DistantNumbers, Side, TouchingNumbers};
 use planning::{Assembly, plan};
-use plans::{PlanNumbers, Planned};
+use plans::{Plan, PlanLists, PlanNumbers};
+use refusals::Refusal;
+use scatter::EntryLists;
 
-// What replay hands back: the run after the last call, or planning's refusal.
+// A call on a run, with what it is lent.
 #[derive(Clone, Copy)]
-pub enum Replayed {
-    Played(Run),
-    Refused(u32),
+enum Call<'a> {
+    Look,
+    AddDistant(DistantNumbers<'a>),
+    AddTouching(TouchingNumbers<'a>),
+    AddEntries(TouchingNumbers<'a>),
 }
 
 // Numbers a to e of the pool, or none where those are not there.
@@ -44,256 +52,121 @@ fn list_in<'a>(pool: &'a [f64], call: &[usize], j: usize) -> &'a [f64]
     part_of(pool, call[j + 3], call[j + 4])
 }
 
-// The add of a distant pair that the call's numbers encode.
-fn play_distant(
-    run: Run,
-    kinds: &[u8],
-    test_dofs: &[u32],
-    trial_dofs: &[u32],
-    work: &[u32],
-    call: &[usize],
-    pool: &[f64],
-    matrix: &mut [f64],
-) -> Added
+// What a distant pair is lent, as the call's numbers encode it.
+fn distant_in<'a>(pool: &'a [f64], call: &[usize]) -> DistantNumbers<'a>
     requires { length call.now ≡ 11 }
-    ensures result_value { added_of result ≡ add_distant (run_of run) (plan_of kinds.now test_dofs.now trial_dofs.now work.now) matrix.old (distant_in pool.now call.now) }
-    ensures matrix_after { matrix.new ≡ distant_matrix (run_of run) (plan_of kinds.now test_dofs.now trial_dofs.now work.now) matrix.old (distant_in pool.now call.now) }
+    ensures { distant_of result ≡ distant_in pool.now call.now }
 {
-    run.add_distant(
-        kinds,
-        test_dofs,
-        trial_dofs,
-        work,
-        call[1],
-        call[2],
-        list_in(pool, call, 0),
-        list_in(pool, call, 1),
-        list_in(pool, call, 2),
-        list_in(pool, call, 3),
-        list_in(pool, call, 4),
-        list_in(pool, call, 5),
-        list_in(pool, call, 6),
-        matrix,
-    )
+    DistantNumbers {
+        test: Side {
+            points: call[1],
+            weights: list_in(pool, call, 0),
+            table: list_in(pool, call, 2),
+            geometry: list_in(pool, call, 5),
+        },
+        trial: Side {
+            points: call[2],
+            weights: list_in(pool, call, 1),
+            table: list_in(pool, call, 3),
+            geometry: list_in(pool, call, 6),
+        },
+        kernel: list_in(pool, call, 4),
+    }
 }
 
-// The add of a touching pair that the call's numbers encode.
-fn play_touching(
-    run: Run,
-    kinds: &[u8],
-    test_dofs: &[u32],
-    trial_dofs: &[u32],
-    work: &[u32],
-    call: &[usize],
-    pool: &[f64],
-    matrix: &mut [f64],
-) -> Added
+// What a touching pair is lent, as the call's numbers encode it.
+fn touching_in<'a>(pool: &'a [f64], call: &[usize]) -> TouchingNumbers<'a>
     requires { length call.now ≡ 11 }
-    ensures result_value { added_of result ≡ add_touching (run_of run) (plan_of kinds.now test_dofs.now trial_dofs.now work.now) matrix.old (touching_in pool.now call.now) }
-    ensures matrix_after { matrix.new ≡ touching_matrix (run_of run) (plan_of kinds.now test_dofs.now trial_dofs.now work.now) matrix.old (touching_in pool.now call.now) }
+    ensures { touching_of result ≡ touching_in pool.now call.now }
 {
-    run.add_touching(
-        kinds,
-        test_dofs,
-        trial_dofs,
-        work,
-        call[1],
-        list_in(pool, call, 0),
-        list_in(pool, call, 1),
-        list_in(pool, call, 2),
-        list_in(pool, call, 3),
-        list_in(pool, call, 4),
-        list_in(pool, call, 5),
-        matrix,
-    )
+    TouchingNumbers {
+        points: call[1],
+        weights: list_in(pool, call, 0),
+        test_table: list_in(pool, call, 1),
+        trial_table: list_in(pool, call, 2),
+        kernel: list_in(pool, call, 3),
+        test_geometry: list_in(pool, call, 4),
+        trial_geometry: list_in(pool, call, 5),
+    }
 }
 
-// The entries call that the call's numbers encode.
-fn play_entries(
-    run: Run,
-    kinds: &[u8],
-    test_dofs: &[u32],
-    trial_dofs: &[u32],
-    work: &[u32],
-    call: &[usize],
-    pool: &[f64],
-    rows: &mut [u32],
-    columns: &mut [u32],
-    values: &mut [f64],
-) -> Added
+// The call that eleven numbers encode.
+fn call_of<'a>(pool: &'a [f64], call: &[usize]) -> Call<'a>
     requires { length call.now ≡ 11 }
-    ensures result_value { added_of result ≡ add_entries (run_of run) (plan_of kinds.now test_dofs.now trial_dofs.now work.now)
-        (entry_lists rows.old columns.old values.old) (touching_in pool.now call.now) }
-    ensures values_after { entry_lists rows.new columns.new values.new ≡ entries_written (run_of run) (plan_of kinds.now test_dofs.now trial_dofs.now work.now)
-        (entry_lists rows.old columns.old values.old) (touching_in pool.now call.now) }
+    ensures { call_lent result ≡ call_of pool.now call.now }
 {
-    run.add_entries(
-        kinds,
-        test_dofs,
-        trial_dofs,
-        work,
-        call[1],
-        list_in(pool, call, 0),
-        list_in(pool, call, 1),
-        list_in(pool, call, 2),
-        list_in(pool, call, 3),
-        list_in(pool, call, 4),
-        list_in(pool, call, 5),
-        rows,
-        columns,
-        values,
-    )
+    match call[0] {
+        0 => Call::Look,
+        1 => Call::AddDistant(distant_in(pool, call)),
+        2 => Call::AddTouching(touching_in(pool, call)),
+        _ => Call::AddEntries(touching_in(pool, call)),
+    }
 }
 
-// Stores four numbers.
-fn put_four(answers: &mut [u32], at: usize, a: u32, b: u32, c: u32, d: u32)
-    requires { at + 4 ≤ length answers.old }
-    ensures { answers.new ≡ sets answers.old at (a ∷ b ∷ c ∷ d ∷ []) }
+// A refusal, as four numbers.
+fn refused(refusal: Refusal) -> [u32; 4]
+    ensures { result ≡ answer_numbers (not_accepted (number_of refusal)) }
 {
-    answers[at] = a;
-    answers[at + 1] = b;
-    answers[at + 2] = c;
-    answers[at + 3] = d;
+    [2, refusal.number(), 0, 0]
 }
 
-// Stores what look answers, and gives the run back.
-fn put_looked(looked: Looked, answers: &mut [u32], at: usize) -> Run
-    requires { at + 4 ≤ length answers.old }
-    ensures result_value { run_of result ≡ (looked_of looked).run }
-    ensures answers_after { answers.new ≡ sets answers.old at (answer_numbers (looked_of looked).answer) }
+// What an add answers, as four numbers.
+fn added(answer: Result<(), Refusal>) -> [u32; 4]
+    ensures { result ≡ answer_numbers (answer_of (λ _. accepted) answer) }
 {
-    match looked {
-        Looked::Found(r, e) => {
-            put_four(answers, at, 0, e.pattern, e.test, e.trial);
-            r
-        }
-        Looked::Refused(r, n) => {
-            put_four(answers, at, 2, n, 0, 0);
-            r
+    match answer {
+        Ok(()) => [1, 0, 0, 0],
+        Err(refusal) => refused(refusal),
+    }
+}
+
+impl Call<'_> {
+    // Makes the call; what it answers, as four numbers.
+    fn play(self, run: &mut Run, plan: Plan, matrix: &mut [f64], lists: &mut EntryLists) -> [u32; 4]
+        ensures answered { Answered (plan_lent plan.entry) (call_lent self.entry) (standing (run_of run.old) matrix.old (entries_lent lists.old))
+            (run_of run.new) matrix.new (entries_lent lists.new) result }
+        ensures same { SameEntries lists.old lists.new }
+    {
+        match self {
+            Call::Look => match run.look(plan) {
+                Ok(e) => [0, e.pattern, e.test, e.trial],
+                Err(refusal) => refused(refusal),
+            },
+            Call::AddDistant(lent) => added(run.add_distant(plan, lent, matrix)),
+            Call::AddTouching(lent) => added(run.add_touching(plan, lent, matrix)),
+            Call::AddEntries(lent) => added(run.add_entries(plan, lent, lists)),
         }
     }
 }
 
-// Stores what an add answers, and gives the run back.
-fn put_added(added: Added, answers: &mut [u32], at: usize) -> Run
-    requires { at + 4 ≤ length answers.old }
-    ensures result_value { run_of result ≡ (added_of added).run }
-    ensures answers_after { answers.new ≡ sets answers.old at (answer_numbers (added_of added).answer) }
-{
-    match added {
-        Added::Accepted(r) => {
-            put_four(answers, at, 1, 0, 0, 0);
-            r
-        }
-        Added::Refused(r, n) => {
-            put_four(answers, at, 2, n, 0, 0);
-            r
-        }
-    }
-}
-
-// Plays one call, and stores its answer from place `at` on.
-fn play_call(
-    run: Run,
-    kinds: &[u8],
-    test_dofs: &[u32],
-    trial_dofs: &[u32],
-    work: &[u32],
-    call: &[usize],
-    pool: &[f64],
-    matrix: &mut [f64],
-    rows: &mut [u32],
-    columns: &mut [u32],
-    values: &mut [f64],
-    answers: &mut [u32],
-    at: usize,
-) -> Run
-    requires { (length call.now ≡ 11) × (at + 4 ≤ length answers.old) }
-    ensures { Stepped (plan_of kinds.now test_dofs.now trial_dofs.now work.now) (call_of pool.now call.now)
-        (standing (run_of run) matrix.old (entry_lists rows.old columns.old values.old)) answers.old at (run_of result) matrix.new
-        (entry_lists rows.new columns.new values.new) answers.new }
-{
-    if call[0] == 0 {
-        return put_looked(run.look(kinds, test_dofs, trial_dofs, work), answers, at);
-    }
-    if call[0] == 1 {
-        return put_added(
-            play_distant(run, kinds, test_dofs, trial_dofs, work, call, pool, matrix),
-            answers,
-            at,
-        );
-    }
-    if call[0] == 2 {
-        return put_added(
-            play_touching(run, kinds, test_dofs, trial_dofs, work, call, pool, matrix),
-            answers,
-            at,
-        );
-    }
-    put_added(
-        play_entries(
-            run, kinds, test_dofs, trial_dofs, work, call, pool, rows, columns, values,
-        ),
-        answers,
-        at,
-    )
-}
-
-// Plays the first n calls, the first one first.
+// Plays the first n calls, the first one first; their answers stand one after the other. (k is the place of a call and of its answer.)
 fn play_calls(
-    run: Run,
-    kinds: &[u8],
-    test_dofs: &[u32],
-    trial_dofs: &[u32],
-    work: &[u32],
+    run: &mut Run,
+    plan: Plan,
     calls: &[usize],
     pool: &[f64],
     n: usize,
     matrix: &mut [f64],
-    rows: &mut [u32],
-    columns: &mut [u32],
-    values: &mut [f64],
+    lists: &mut EntryLists,
     answers: &mut [u32],
-) -> Run
+)
     requires { (11 * n ≤ length calls.now) × (4 * n ≤ length answers.old) }
-    ensures { Going (plan_of kinds.now test_dofs.now trial_dofs.now work.now) (calls_of calls.now pool.now n)
-        (standing (run_of run) matrix.old (entry_lists rows.old columns.old values.old)) answers.old (run_of result) matrix.new
-        (entry_lists rows.new columns.new values.new) answers.new }
+    ensures going { Going (plan_lent plan.entry) (calls_of calls.now pool.now n)
+        (standing (run_of run.old) matrix.old (entries_lent lists.old)) answers.old (run_of run.new) matrix.new (entries_lent lists.new) answers.new }
+    ensures same { SameEntries lists.old lists.new }
 {
-    let mut r = run;
     for k in 0..n {
-        let start = 11 * k;
-        let end = start + 11;
-        let call = &calls[start..end];
-        r = play_call(
-            r,
-            kinds,
-            test_dofs,
-            trial_dofs,
-            work,
-            call,
-            pool,
-            matrix,
-            rows,
-            columns,
-            values,
-            answers,
-            4 * k,
-        );
+        let call = call_of(pool, &calls[11 * k..11 * k + 11]);
+        let answer = call.play(run, plan, matrix, lists);
+        answers[4 * k..4 * k + 4].copy_from_slice(&answer);
     }
-    r
 }
 
-// How many calls are played.
+// How many calls are played: as many as the numbers encode whole, and no more than there is room to answer.
 fn call_count(calls: &[usize], answers: &[u32]) -> usize
     ensures { result ≡ call_count calls.now answers.now }
 {
-    let whole = calls.len() / 11;
-    let room = answers.len() / 4;
-    if whole <= room {
-        return whole;
-    }
-    room
+    (calls.len() / 11).min(answers.len() / 4)
 }
 
 // A run of either kind.
@@ -301,84 +174,49 @@ fn begin_run(numbers: PlanNumbers, entries: bool) -> Run
     ensures { run_of result ≡ begun entries numbers }
 {
     if entries {
-        return Run::begin_entries(numbers);
+        Run::begin_entries(numbers)
+    } else {
+        Run::begin(numbers)
     }
-    Run::begin(numbers)
 }
 
 // Plans, begins a run, of entries or dense, and plays the calls on it, as many as there is room to answer; plays nothing where planning refuses.
 pub fn replay(
-    sizes: Sizes,
-    kinds: &[u8],
-    cell_vertices: &[u32],
-    cell_edges: &[u32],
+    mesh: Mesh,
     assembly: Assembly,
-    test_dofs: &mut [u32],
-    trial_dofs: &mut [u32],
-    test_colours: &mut [u32],
-    trial_colours: &mut [u32],
-    test_owners: &mut [u32],
-    trial_owners: &mut [u32],
-    work: &mut [u32],
+    lists: &mut PlanLists,
     entries: bool,
     calls: &[usize],
     pool: &[f64],
     matrix: &mut [f64],
-    rows: &mut [u32],
-    columns: &mut [u32],
-    values: &mut [f64],
+    entry_lists: &mut EntryLists,
     answers: &mut [u32],
-) -> Replayed
-    ensures result_value { outcome_of result ≡ replayed (planning_with (mesh_with sizes kinds.now cell_vertices.now cell_edges.now) assembly)
-        (lists_of test_dofs.old trial_dofs.old test_colours.old trial_colours.old test_owners.old trial_owners.old work.old) entries
-        (calls_of calls.now pool.now (call_count calls.now answers.old)) matrix.old (entry_lists rows.old columns.old values.old) }
-    ensures matrix_after { matrix.new ≡ replayed_matrix (planning_with (mesh_with sizes kinds.now cell_vertices.now cell_edges.now) assembly)
-        (lists_of test_dofs.old trial_dofs.old test_colours.old trial_colours.old test_owners.old trial_owners.old work.old) entries
-        (calls_of calls.now pool.now (call_count calls.now answers.old)) matrix.old (entry_lists rows.old columns.old values.old) }
-    ensures values_after { entry_lists rows.new columns.new values.new ≡ replayed_lists (planning_with (mesh_with sizes kinds.now cell_vertices.now cell_edges.now) assembly)
-        (lists_of test_dofs.old trial_dofs.old test_colours.old trial_colours.old test_owners.old trial_owners.old work.old) entries
-        (calls_of calls.now pool.now (call_count calls.now answers.old)) matrix.old (entry_lists rows.old columns.old values.old) }
-    ensures answers_after { answers.new ≡ replayed_answers (planning_with (mesh_with sizes kinds.now cell_vertices.now cell_edges.now) assembly)
-        (lists_of test_dofs.old trial_dofs.old test_colours.old trial_colours.old test_owners.old trial_owners.old work.old) entries
-        (calls_of calls.now pool.now (call_count calls.now answers.old)) matrix.old (entry_lists rows.old columns.old values.old) answers.old }
-    ensures work_after { lists_of test_dofs.new trial_dofs.new test_colours.new trial_colours.new test_owners.new trial_owners.new work.new
-        ≡ plan_lists (planning_with (mesh_with sizes kinds.now cell_vertices.now cell_edges.now) assembly)
-        (lists_of test_dofs.old trial_dofs.old test_colours.old trial_colours.old test_owners.old trial_owners.old work.old) }
+) -> Result<Run, Refusal>
+    ensures result_value { outcome_of result ≡ replayed (planning_with (mesh_lent mesh.entry) assembly) (lists_lent lists.old) entries
+        (calls_of calls.now pool.now (call_count calls.now answers.old)) matrix.old (entries_lent entry_lists.old) }
+    ensures matrix_after { matrix.new ≡ replayed_matrix (planning_with (mesh_lent mesh.entry) assembly) (lists_lent lists.old) entries
+        (calls_of calls.now pool.now (call_count calls.now answers.old)) matrix.old (entries_lent entry_lists.old) }
+    ensures values_after { entries_lent entry_lists.new ≡ replayed_lists (planning_with (mesh_lent mesh.entry) assembly) (lists_lent lists.old) entries
+        (calls_of calls.now pool.now (call_count calls.now answers.old)) matrix.old (entries_lent entry_lists.old) }
+    ensures answers_after { answers.new ≡ replayed_answers (planning_with (mesh_lent mesh.entry) assembly) (lists_lent lists.old) entries
+        (calls_of calls.now pool.now (call_count calls.now answers.old)) matrix.old (entries_lent entry_lists.old) answers.old }
+    ensures work_after { lists_lent lists.new ≡ plan_lists (planning_with (mesh_lent mesh.entry) assembly) (lists_lent lists.old) }
+    ensures same_lists { SameLists lists.old lists.new }
+    ensures same_entries { SameEntries entry_lists.old entry_lists.new }
 {
-    let planned = plan(
-        sizes,
-        kinds,
-        cell_vertices,
-        cell_edges,
-        assembly,
-        test_dofs,
-        trial_dofs,
-        test_colours,
-        trial_colours,
-        test_owners,
-        trial_owners,
-        work,
+    let numbers = plan(mesh, assembly, lists)?;
+    let written = lists.plan(mesh.kinds);
+    let mut run = begin_run(numbers, entries);
+    let n = call_count(calls, answers);
+    play_calls(
+        &mut run,
+        written,
+        calls,
+        pool,
+        n,
+        matrix,
+        entry_lists,
+        answers,
     );
-    match planned {
-        Planned::Refused(v) => Replayed::Refused(v),
-        Planned::Ready(numbers) => {
-            let n = call_count(calls, answers);
-            let run = play_calls(
-                begin_run(numbers, entries),
-                kinds,
-                test_dofs,
-                trial_dofs,
-                work,
-                calls,
-                pool,
-                n,
-                matrix,
-                rows,
-                columns,
-                values,
-                answers,
-            );
-            Replayed::Played(run)
-        }
-    }
+    Ok(run)
 }

@@ -4,5 +4,5 @@ use Rattle.replay.proofs.begin_run.Goals as goal
 pub returns-then-entries : goal.returns-then-entries
 returns-then-entries c = rw c.if-entries.true c.begin_entries.ensures
 
-pub returns : goal.returns
-returns c = rw c.if-entries.false c.begin.ensures
+pub returns-else-entries : goal.returns-else-entries
+returns-else-entries c = rw c.if-entries.false c.begin.ensures

@@ -1,32 +1,29 @@
 -- See Invariants.antt. Assumes nothing.
-use native.Mathlib.Omega.{arith}
-use mathlib.Core.Path.{◌≡◌, refl, ◌∙◌}
-use Rattle.replay.specs.Laws.{calls_none, calls_more, length_calls, going_none, going_more, call_long, call_is}
-use borrow.Author.Rules.{rules}
+use Rattle.std.proofs.Common.{◌≡◌, ◌*◌, length, arith, refl, ap, ◌∙◌}
+use Rattle.std.proofs.Math.Seq.{sets, length-sets}
+use Rattle.replay.specs.Laws.{calls_none, calls_more, length_calls, going_none, going_more, stepped, stored_is, call_long, call_is, four}
 use Rattle.replay.proofs.play_calls.Goals as goal
 
 pub loop-k-init : goal.loop-k-init
-loop-k-init c = (search rules, refl, refl, refl, refl, refl, rw calls_none (going_none _ _ _ _ _))
+loop-k-init c = (omega arith, refl, record { rows = refl; columns = refl; values = refl }, rw calls_none (going_none _ _ _ _ _))
 
-pub play_call-r-requires : goal.play_call-r-requires
-play_call-r-requires c =
-    let inv = c.loop-k.invariant in
-    let taken = c.loop-k-test.true in
-    (call_long c.args.calls.now c.loop-k.k (omega arith), omega arith)
+pub call_of-call-requires : goal.call_of-call-requires
+call_of-call-requires c = call_long c.args.calls.now c.loop-k.k (omega (arith, c.loop-k-test.true))
 
 pub loop-k-preserved : goal.loop-k-preserved
 loop-k-preserved c =
-    let inv = c.loop-k.invariant in (
+    let inv = c.loop-k.invariant in
+    let step = rw (c.call_of-call.ensures ∙ call_is c.args.calls.now c.args.pool.now c.loop-k.k) at c.play-answer.ensures.answered in
+    let long : length c.copy_from_slice.new.self ≡ 4 = ap length (c.copy_from_slice.ensures.after ∙ step.answer) ∙ four _ in
+    let stored = stored_is c.loop-k.answers c.copy_from_slice.new.self (4 * c.loop-k.k) (omega (arith, inv.1, c.requires.1, c.loop-k-test.true)) long in
+    let same = c.play-answer.ensures.same in (
       omega (arith, c.loop-k-test.true),
-      c.play_call-r.auto.matrix ∙ inv.1,
-      c.play_call-r.auto.rows ∙ inv.2,
-      c.play_call-r.auto.columns ∙ inv.3,
-      c.play_call-r.auto.values ∙ inv.4,
-      c.play_call-r.auto.answers ∙ inv.5,
-      rw calls_more (going_more _ _ _ _ _ _ _ _ _ _ _ _ _ _ (length_calls _ _ _) inv.6 (rw call_is at c.play_call-r.ensures)),
+      ap length stored ∙ length-sets c.loop-k.answers (4 * c.loop-k.k) c.copy_from_slice.new.self ∙ inv.1,
+      record { rows = same.rows ∙ inv.2.rows; columns = same.columns ∙ inv.2.columns; values = same.values ∙ inv.2.values },
+      rw calls_more (going_more _ _ _ _ _ _ _ _ _ _ _ _ _ _ (length_calls _ _ _) inv.3 (stepped step (stored ∙ ap (sets c.loop-k.answers (4 * c.loop-k.k)) c.copy_from_slice.ensures.after))),
     )
 
 pub returns : goal.returns
 returns c =
     let end : c.loop-k.k ≡ c.args.n = omega arith in
-    rw end at c.loop-k.invariant.6
+    record { going = rw end at c.loop-k.invariant.3; same = c.loop-k.invariant.2 }
