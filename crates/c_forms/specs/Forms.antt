@@ -8,11 +8,9 @@ use Rattle.integrands.specs.declared.Integrand.{Integrand}
 use Rattle.cell_pairs.specs.declared.WorkRecord.{WorkRecord}
 use Rattle.plans.specs.declared.KindPairs.{KindPairs}
 use Rattle.plans.specs.declared.PlanNumbers.{PlanNumbers}
-use Rattle.plans.specs.declared.Planned.{Planned}
-use Rattle.plans.specs.declared.Planned.TheVariants.{Ready as ready, Refused as not_planned}
+use Rattle.plans.specs.Planning.{Planned, ready, refused as not_planned}
 use Rattle.runs.specs.Runs.{Run, Reply, Answer, found, accepted, refused}
-use Rattle.sparse_lists.specs.declared.Gathered.{Gathered}
-use Rattle.sparse_lists.specs.declared.Gathered.TheVariants.{Kept as kept, Refused as not_gathered}
+use Rattle.sparse_lists.specs.Sparse.{Gathered, kept, refused as not_gathered}
 use Rattle.c_forms.specs.declared.CTerm.{CTerm}
 use Rattle.c_forms.specs.declared.CIntegrand.{CIntegrand}
 use Rattle.c_forms.specs.declared.CNumbers.{CNumbers}

@@ -7,9 +7,7 @@ use Rattle.lists.specs.Refusals.{Check, refusal, refusal_fails}
 use Rattle.grid.specs.Mesh.{Mesh}
 use Rattle.cell_pairs.specs.declared.WorkRecord.{WorkRecord}
 use Rattle.function.specs.declared.Elements.{Elements}
-use Rattle.plans.specs.declared.Planned.{Planned}
-use Rattle.plans.specs.declared.Planned.TheVariants.{Ready as ready, Refused as not_planned}
-use Rattle.plans.specs.Planning.{planning_of, plan_numbers}
+use Rattle.plans.specs.Planning.{Planned, ready, refused as not_planned, planning_of, plan_numbers}
 use Rattle.runs.specs.Runs.{Run, Plan, EntryLists, Reply, found, accepted, reply, begin, begin_entries, ranges_right, counts_right, kinds_fit, plan_right, state_checks, look_refusal, advance, distant_refusal, touching_refusal, entries_refusal}
 use Rattle.sparse_lists.specs.Sparse.{SparseLists, values_at, kept_of, sparse_refusal, gathered, sparse_rows}
 use Rattle.c_forms.specs.declared.CIntegrand.{CIntegrand}

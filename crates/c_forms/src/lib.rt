@@ -3,15 +3,17 @@
 #![tactic(auto)]
 
 ghost use Rattle.std.specs.Prelude.{◌≡◌};
+ghost use Rattle.plans.specs.Lent.{planned_of};
 ghost use Rattle.boundary_assemblers.specs.Forms as Inner;
+ghost use Rattle.sparse_lists.specs.Answers.{gathered_of};
 ghost use Rattle.c_forms.specs.Forms.{term_of, integrand_of, numbers_of, run_of, c_numbers, no_numbers, c_planned, c_record, no_record, c_looked, c_run, moved, c_added, c_gathered};
 
-use boundary_assemblers::{Added, Looked, Run};
+use boundary_assemblers::Run;
 use cell_pairs::WorkRecord;
 use function::Elements;
 use integrands::{Integrand, Term};
-use plans::{KindPairs, PlanNumbers, Planned};
-use sparse_lists::Gathered;
+use plans::{KindPairs, PlanNumbers};
+use refusals::Refusal;
 
 // A term: `scaled` is 0 for a bare one, whose factor is not read, and any other number for one that carries the factor.
 #[repr(C)]
@@ -67,6 +69,15 @@ pub struct CRun {
     pub position: u32,
 }
 
+impl CRun {
+    // The host's run at another position.
+    fn at(self, position: u32) -> CRun
+        ensures { result ≡ moved self position }
+    {
+        CRun { position, ..self }
+    }
+}
+
 // A record of the work list.
 #[repr(C)]
 #[derive(Clone, Copy)]
@@ -104,60 +115,62 @@ pub struct CGathered {
 // ---- what a C form stands for
 
 // Bare where `scaled` is 0; for any other `scaled` the term carries the factor.
-fn term_of(t: CTerm) -> Term
-    ensures { result ≡ term_of t }
-{
-    if t.scaled == 0 {
-        return Term::Bare(t.kind);
-    }
-    Term::Scaled(t.factor, t.kind)
-}
+impl From<CTerm> for Term {
+    ghost from_gives = { λ c t. t ≡ term_of c };
 
-pub fn integrand_of(f: CIntegrand) -> Integrand
-    ensures { result ≡ integrand_of f }
-{
-    let first = term_of(f.first);
-    let second = term_of(f.second);
-    Integrand {
-        terms: f.terms,
-        first: first,
-        second: second,
+    fn from(c: CTerm) -> Term {
+        if c.scaled == 0 {
+            Term::Bare(c.kind)
+        } else {
+            Term::Scaled(c.factor, c.kind)
+        }
     }
 }
 
-pub fn numbers_of(n: CNumbers) -> PlanNumbers
-    ensures { result ≡ numbers_of n }
-{
-    let pairs = n.pairs;
-    let test = n.test;
-    let trial = n.trial;
-    let integrand = integrand_of(n.integrand);
-    PlanNumbers {
-        cells: n.cells,
-        vertices: n.vertices,
-        edges: n.edges,
-        triangles: n.triangles,
-        quads: n.quads,
-        touching: n.touching,
-        distant: n.distant,
-        pairs: pairs,
-        rows: n.rows,
-        columns: n.columns,
-        test: test,
-        trial: trial,
-        integrand: integrand,
+impl From<CIntegrand> for Integrand {
+    ghost from_gives = { λ c f. f ≡ integrand_of c };
+
+    fn from(c: CIntegrand) -> Integrand {
+        Integrand {
+            terms: c.terms,
+            first: Term::from(c.first),
+            second: Term::from(c.second),
+        }
+    }
+}
+
+impl From<CNumbers> for PlanNumbers {
+    ghost from_gives = { λ c n. n ≡ numbers_of c };
+
+    fn from(c: CNumbers) -> PlanNumbers {
+        PlanNumbers {
+            cells: c.cells,
+            vertices: c.vertices,
+            edges: c.edges,
+            triangles: c.triangles,
+            quads: c.quads,
+            touching: c.touching,
+            distant: c.distant,
+            pairs: c.pairs,
+            rows: c.rows,
+            columns: c.columns,
+            test: c.test,
+            trial: c.trial,
+            integrand: Integrand::from(c.integrand),
+        }
     }
 }
 
 // Dense where `entries` is 0; for any other `entries` an entries run.
-pub fn run_of(c: CRun) -> Run
-    ensures { Inner.run_of result ≡ run_of c }
-{
-    let numbers = numbers_of(c.numbers);
-    Run {
-        numbers: numbers,
-        entries: c.entries != 0,
-        position: c.position,
+impl From<CRun> for Run {
+    ghost from_gives = { λ c r. Inner.run_of r ≡ run_of c };
+
+    fn from(c: CRun) -> Run {
+        Run {
+            numbers: PlanNumbers::from(c.numbers),
+            entries: c.entries != 0,
+            position: c.position,
+        }
     }
 }
 
@@ -167,7 +180,6 @@ pub fn run_of(c: CRun) -> Run
 fn c_numbers(test: Elements, trial: Elements, f: CIntegrand, n: PlanNumbers) -> CNumbers
     ensures { result ≡ c_numbers test trial f n }
 {
-    let pairs = n.pairs;
     CNumbers {
         cells: n.cells,
         vertices: n.vertices,
@@ -176,11 +188,11 @@ fn c_numbers(test: Elements, trial: Elements, f: CIntegrand, n: PlanNumbers) -> 
         quads: n.quads,
         touching: n.touching,
         distant: n.distant,
-        pairs: pairs,
+        pairs: n.pairs,
         rows: n.rows,
         columns: n.columns,
-        test: test,
-        trial: trial,
+        test,
+        trial,
         integrand: f,
     }
 }
@@ -205,30 +217,29 @@ fn no_numbers(test: Elements, trial: Elements, f: CIntegrand) -> CNumbers
         },
         rows: 0,
         columns: 0,
-        test: test,
-        trial: trial,
+        test,
+        trial,
         integrand: f,
     }
 }
 
-pub fn c_planned(test: Elements, trial: Elements, f: CIntegrand, answer: Planned) -> CPlanned
-    ensures { result ≡ c_planned test trial f answer }
+pub fn c_planned(
+    test: Elements,
+    trial: Elements,
+    f: CIntegrand,
+    answer: Result<PlanNumbers, Refusal>,
+) -> CPlanned
+    ensures { result ≡ c_planned test trial f (planned_of answer) }
 {
     match answer {
-        Planned::Ready(n) => {
-            let numbers = c_numbers(test, trial, f, n);
-            CPlanned {
-                refusal: 0,
-                numbers: numbers,
-            }
-        }
-        Planned::Refused(v) => {
-            let numbers = no_numbers(test, trial, f);
-            CPlanned {
-                refusal: v,
-                numbers: numbers,
-            }
-        }
+        Ok(n) => CPlanned {
+            refusal: 0,
+            numbers: c_numbers(test, trial, f, n),
+        },
+        Err(refusal) => CPlanned {
+            refusal: u32::from(refusal),
+            numbers: no_numbers(test, trial, f),
+        },
     }
 }
 
@@ -238,30 +249,20 @@ pub fn c_run(n: CNumbers, run: Run) -> CRun
 {
     CRun {
         numbers: n,
-        entries: run.entries as u32,
+        entries: u32::from(run.entries),
         position: run.position,
     }
 }
 
-// The host's run at another position.
-fn moved(c: CRun, position: u32) -> CRun
-    ensures { result ≡ moved c position }
-{
-    let n = c.numbers;
-    CRun {
-        numbers: n,
-        entries: c.entries,
-        position: position,
-    }
-}
+impl From<WorkRecord> for CRecord {
+    ghost from_gives = { λ e c. c ≡ c_record e };
 
-fn c_record(e: WorkRecord) -> CRecord
-    ensures { result ≡ c_record e }
-{
-    CRecord {
-        pattern: e.pattern,
-        test_cell: e.test,
-        trial_cell: e.trial,
+    fn from(e: WorkRecord) -> CRecord {
+        CRecord {
+            pattern: e.pattern,
+            test_cell: e.test,
+            trial_cell: e.trial,
+        }
     }
 }
 
@@ -276,62 +277,46 @@ fn no_record() -> CRecord
     }
 }
 
-pub fn c_looked(c: CRun, answer: Looked) -> CLooked
-    ensures { result ≡ c_looked c (Inner.looked_of answer) }
+// What look answers, of the host's run and the run that it stands for.
+pub fn c_looked(c: CRun, run: &Run, answer: Result<WorkRecord, Refusal>) -> CLooked
+    ensures { result ≡ c_looked c (Inner.looked_of run.now answer) }
 {
+    let next = c.at(run.position);
     match answer {
-        Looked::Found(run, e) => {
-            let next = moved(c, run.position);
-            let record = c_record(e);
-            CLooked {
-                refusal: 0,
-                run: next,
-                record: record,
-            }
-        }
-        Looked::Refused(run, v) => {
-            let next = moved(c, run.position);
-            let record = no_record();
-            CLooked {
-                refusal: v,
-                run: next,
-                record: record,
-            }
-        }
-    }
-}
-
-pub fn c_added(c: CRun, answer: Added) -> CAdded
-    ensures { result ≡ c_added c (Inner.added_of answer) }
-{
-    match answer {
-        Added::Accepted(run) => {
-            let next = moved(c, run.position);
-            CAdded {
-                refusal: 0,
-                run: next,
-            }
-        }
-        Added::Refused(run, v) => {
-            let next = moved(c, run.position);
-            CAdded {
-                refusal: v,
-                run: next,
-            }
-        }
-    }
-}
-
-pub fn c_gathered(answer: Gathered) -> CGathered
-    ensures { result ≡ c_gathered answer }
-{
-    match answer {
-        Gathered::Kept(n) => CGathered {
+        Ok(e) => CLooked {
             refusal: 0,
-            kept: n,
+            run: next,
+            record: CRecord::from(e),
         },
-        Gathered::Refused(v) => CGathered {
-            refusal: v,
+        Err(refusal) => CLooked {
+            refusal: u32::from(refusal),
+            run: next,
+            record: no_record(),
+        },
+    }
+}
+
+// What an add or the entries call answers, of the host's run and the run that the call left.
+pub fn c_added(c: CRun, run: &Run, answer: Result<(), Refusal>) -> CAdded
+    ensures { result ≡ c_added c (Inner.added_of run.now answer) }
+{
+    let refusal = match answer {
+        Ok(()) => 0,
+        Err(refusal) => u32::from(refusal),
+    };
+    CAdded {
+        refusal,
+        run: c.at(run.position),
+    }
+}
+
+pub fn c_gathered(answer: Result<u64, Refusal>) -> CGathered
+    ensures { result ≡ c_gathered (gathered_of answer) }
+{
+    match answer {
+        Ok(kept) => CGathered { refusal: 0, kept },
+        Err(refusal) => CGathered {
+            refusal: u32::from(refusal),
             kept: 0,
         },
     }
