@@ -6,8 +6,7 @@ use Rattle.std.specs.Prelude.{◌≡◌, refl, List, [], ◌∷◌, ◌++◌, Fl
 use Rattle.std.proofs.Math.Path.{ap}
 use Rattle.lists.specs.Fold.{over_agree}
 use Rattle.grid.specs.Mesh.{Mesh}
-use Rattle.plans.specs.declared.Planned.TheVariants.{Ready as ready}
-use Rattle.plans.specs.Planning.{Planning, Lists, planning_of, plan_refusal, plan_answer, plan, plan_numbers, plan_lists}
+use Rattle.plans.specs.Planning.{ready, Planning, Lists, planning_of, plan_refusal, plan_answer, plan, plan_numbers, plan_lists}
 use Rattle.plans.specs.Promises.{Promised}
 use Rattle.plans.proofs.Promises.{promised}
 use Rattle.runs.specs.Runs.{Run, Plan, EntryLists, Answer, begin, begin_entries, record_of, look_refusal, distant_refusal, touching_refusal, entries_refusal, look, add_distant, add_touching, add_entries}

@@ -1,10 +1,14 @@
-// The adds, and the entries call.
+// The adds, and the entries call. A function that C calls takes each list by itself, as its header declares.
 ghost use Rattle.std.specs.Prelude.{◌≡◌};
 ghost use Rattle.lent_numbers.specs.Lent.{touching, distant};
 ghost use Rattle.runs.specs.Runs.{plan_of, entry_lists, add_touching, touching_matrix, add_distant, distant_matrix, add_entries, entries_written};
 ghost use Rattle.c_forms.specs.Forms.{run_of, c_added};
 
-use c_forms::{CAdded, CRun, c_added, run_of};
+use boundary_assemblers::Run;
+use c_forms::{CAdded, CRun, c_added};
+use lent_numbers::{DistantNumbers, Side, TouchingNumbers};
+use plans::Plan;
+use scatter::EntryLists;
 
 // Adds the local matrix of a distant pair.
 #[unsafe(no_mangle)]
@@ -30,24 +34,30 @@ pub extern "C" fn seivalto_add_distant(
     ensures matrix_after { matrix.new ≡ distant_matrix (run_of run) (plan_of kinds.now test_dofs.now trial_dofs.now work.now) matrix.old
         (distant test_points trial_points test_weights.now trial_weights.now test_table.now trial_table.now kernel.now test_geometry.now trial_geometry.now) }
 {
-    let inner = run_of(run);
-    let answer = inner.add_distant(
+    let mut inner = Run::from(run);
+    let plan = Plan {
         kinds,
         test_dofs,
         trial_dofs,
         work,
-        test_points,
-        trial_points,
-        test_weights,
-        trial_weights,
-        test_table,
-        trial_table,
+    };
+    let lent = DistantNumbers {
+        test: Side {
+            points: test_points,
+            weights: test_weights,
+            table: test_table,
+            geometry: test_geometry,
+        },
+        trial: Side {
+            points: trial_points,
+            weights: trial_weights,
+            table: trial_table,
+            geometry: trial_geometry,
+        },
         kernel,
-        test_geometry,
-        trial_geometry,
-        matrix,
-    );
-    c_added(run, answer)
+    };
+    let answer = inner.add_distant(plan, lent, matrix);
+    c_added(run, &inner, answer)
 }
 
 // Adds the local matrix of a touching pair.
@@ -72,12 +82,14 @@ pub extern "C" fn seivalto_add_touching(
     ensures matrix_after { matrix.new ≡ touching_matrix (run_of run) (plan_of kinds.now test_dofs.now trial_dofs.now work.now) matrix.old
         (touching points weights.now test_table.now trial_table.now kernel.now test_geometry.now trial_geometry.now) }
 {
-    let inner = run_of(run);
-    let answer = inner.add_touching(
+    let mut inner = Run::from(run);
+    let plan = Plan {
         kinds,
         test_dofs,
         trial_dofs,
         work,
+    };
+    let lent = TouchingNumbers {
         points,
         weights,
         test_table,
@@ -85,9 +97,9 @@ pub extern "C" fn seivalto_add_touching(
         kernel,
         test_geometry,
         trial_geometry,
-        matrix,
-    );
-    c_added(run, answer)
+    };
+    let answer = inner.add_touching(plan, lent, matrix);
+    c_added(run, &inner, answer)
 }
 
 // Writes row, column and value of each entry of a touching pair into three lists.
@@ -117,12 +129,14 @@ pub extern "C" fn seivalto_add_entries(
         (entry_lists rows.old columns.old values.old)
         (touching points weights.now test_table.now trial_table.now kernel.now test_geometry.now trial_geometry.now) }
 {
-    let inner = run_of(run);
-    let answer = inner.add_entries(
+    let mut inner = Run::from(run);
+    let plan = Plan {
         kinds,
         test_dofs,
         trial_dofs,
         work,
+    };
+    let lent = TouchingNumbers {
         points,
         weights,
         test_table,
@@ -130,9 +144,12 @@ pub extern "C" fn seivalto_add_entries(
         kernel,
         test_geometry,
         trial_geometry,
+    };
+    let mut lists = EntryLists {
         rows,
         columns,
         values,
-    );
-    c_added(run, answer)
+    };
+    let answer = inner.add_entries(plan, lent, &mut lists);
+    c_added(run, &inner, answer)
 }

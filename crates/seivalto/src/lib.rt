@@ -1,4 +1,5 @@
-// The C interface: planning, the calls of a run and sparse rows, for a C or a Rust program to link. `host/include/seivalto.h` declares it.
+// The C interface: planning, the calls of a run and sparse rows, for a C or a Rust program to link. `host/include/seivalto.h` declares it: so each list is a
+// parameter of its own, a refusal is a number, and a run is passed and handed back by value.
 #![tactic(auto)]
 
 mod adds;
@@ -11,13 +12,12 @@ ghost use Rattle.runs.specs.Runs.{plan_of, begin, begin_entries, look};
 ghost use Rattle.c_forms.specs.Forms.{integrand_of, numbers_of, run_of, c_planned, c_run, c_looked};
 
 use boundary_assemblers::Run;
-use c_forms::{
-    CIntegrand, CLooked, CNumbers, CPlanned, CRun, c_looked, c_planned, c_run, integrand_of,
-    numbers_of, run_of,
-};
+use c_forms::{CIntegrand, CLooked, CNumbers, CPlanned, CRun, c_looked, c_planned, c_run};
 use function::Elements;
-use grid::Sizes;
+use grid::{Mesh, Sizes};
+use integrands::Integrand;
 use planning::{Assembly, plan};
+use plans::{Plan, PlanLists, PlanNumbers};
 
 // Plans: writes the seven lists, unless a check turns the call down.
 #[unsafe(no_mangle)]
@@ -47,23 +47,23 @@ pub extern "C" fn seivalto_plan(
         ≡ plan_lists (planning_of (mesh_with (sizes_of cells vertices edges) kinds.now cell_vertices.now cell_edges.now) test trial batch (integrand_of integrand))
         (lists_of test_dofs.old trial_dofs.old test_colours.old trial_colours.old test_owners.old trial_owners.old work.old) }
 {
-    let sizes = Sizes {
-        cells: cells,
-        vertices: vertices,
-        edges: edges,
-    };
-    let assembly = Assembly {
-        test: test,
-        trial: trial,
-        batch: batch,
-        integrand: integrand_of(integrand),
-    };
-    let answer = plan(
-        sizes,
+    let mesh = Mesh {
+        sizes: Sizes {
+            cells,
+            vertices,
+            edges,
+        },
         kinds,
         cell_vertices,
         cell_edges,
-        assembly,
+    };
+    let assembly = Assembly {
+        test,
+        trial,
+        batch,
+        integrand: Integrand::from(integrand),
+    };
+    let mut lists = PlanLists {
         test_dofs,
         trial_dofs,
         test_colours,
@@ -71,7 +71,8 @@ pub extern "C" fn seivalto_plan(
         test_owners,
         trial_owners,
         work,
-    );
+    };
+    let answer = plan(mesh, assembly, &mut lists);
     c_planned(test, trial, integrand, answer)
 }
 
@@ -80,8 +81,7 @@ pub extern "C" fn seivalto_plan(
 pub extern "C" fn seivalto_begin(numbers: CNumbers) -> CRun
     ensures { result ≡ c_run numbers (begin (numbers_of numbers)) }
 {
-    let n = numbers_of(numbers);
-    c_run(numbers, Run::begin(n))
+    c_run(numbers, Run::begin(PlanNumbers::from(numbers)))
 }
 
 // Begins an entries run.
@@ -89,8 +89,7 @@ pub extern "C" fn seivalto_begin(numbers: CNumbers) -> CRun
 pub extern "C" fn seivalto_begin_entries(numbers: CNumbers) -> CRun
     ensures { result ≡ c_run numbers (begin_entries (numbers_of numbers)) }
 {
-    let n = numbers_of(numbers);
-    c_run(numbers, Run::begin_entries(n))
+    c_run(numbers, Run::begin_entries(PlanNumbers::from(numbers)))
 }
 
 // Answers record p.
@@ -104,6 +103,12 @@ pub extern "C" fn seivalto_look(
 ) -> CLooked
     ensures { result ≡ c_looked run (look (run_of run) (plan_of kinds.now test_dofs.now trial_dofs.now work.now)) }
 {
-    let inner = run_of(run);
-    c_looked(run, inner.look(kinds, test_dofs, trial_dofs, work))
+    let inner = Run::from(run);
+    let answer = inner.look(Plan {
+        kinds,
+        test_dofs,
+        trial_dofs,
+        work,
+    });
+    c_looked(run, &inner, answer)
 }
