@@ -24,13 +24,15 @@ const GROUPS: [(&str, usize); 12] = [
     ("infinity minus infinity", 12),
 ];
 
+// All of them.
+const CASES: usize = 254;
+
 // A case is named by its number, which is its line in the file, from 1.
 fn main(rt: HostRuntime) -> io::Result<()> {
     let alloc = rt.alloc();
     let text = fs::read_to_string(&rt, "cases")?;
     let mut words = Words::new(text.as_str());
-    let count: usize = GROUPS.iter().map(|(_, n)| *n).sum();
-    let mut numbers = 1..=count;
+    let mut numbers = 1..=CASES;
     let mut differing = Vec::new(alloc);
     for (name, n) in GROUPS {
         for number in numbers.by_ref().take(n) {
@@ -45,5 +47,5 @@ fn main(rt: HostRuntime) -> io::Result<()> {
         println!(rt; "the file has more cases")?;
     }
     let differ = differing.len();
-    println!(rt; "{count} cases, {differ} differ")
+    println!(rt; "{CASES} cases, {differ} differ")
 }

@@ -1,10 +1,13 @@
 -- What the code of the text rests on: digits, lines, and how long they are. Assumes nothing.
 use Rattle.std.specs.Prelude.{ℕ, zero, suc, ◌+◌, ◌*◌, ◌/◌, ◌≤◌, ◌<◌, ◌^◌, ◌≡◌, refl, cond, length, get_or, take, ltb}
-use Rattle.std.proofs.Common.{add-one, arith, sym, ap, ◌∙◌, ⊎_elim, length-append, take_all, lt-ltb, le-ltb}
+use Rattle.std.proofs.Common.{drop, add-one, arith, sym, ap, ◌∙◌, ⊎_elim, length-append, take_all, lt-ltb, le-ltb}
 use mathlib.Core.List.{List, [], ◌∷◌, ◌++◌, flat_map, append_assoc}
 use Rattle.lists.specs.Bounded.{lt_or_le}
 use Rattle.lists.specs.Range.{range, flat_map_range, flat_map_none, flat_map_below, flat_map_take, AllIn}
 use Rattle.std.specs.Fmt as fmt
+use Rattle.std.proofs.lemmas.List.{get_or-drop, length-drop, drop-drop}
+use Rattle.std.proofs.Math.ListN.{get_or-append}
+use Rattle.std.proofs.Math.Seq.{drop-append_seam}
 use Rattle.std.proofs.lemmas.Fmt.{AppendsLastDigit, decimal_from_appends, length-decimal-le}
 use Rattle.cell_pairs.specs.declared.WorkRecord.{WorkRecord}
 use Rattle.cell_pairs.specs.Records.{rec, width, flat, record_at}
@@ -67,6 +70,20 @@ flat_map_each f xs d (suc n) h =
     (flat_map_range (λ k. f (get_or xs k d)) n
     ∙ ap (λ (l : List _). l ++ f (get_or xs n d)) (flat_map_each f xs d n (omega arith))
     ∙ sym (flat_map_take f xs d n (omega arith)))
+
+-- the next record of a list whose first k are passed: what is left begins with it
+pub record_next : (work rest x more : List ℕ) (k : ℕ) → rest ≡ drop (width * k) work → rest ≡ x ++ more → length x ≡ width → width * k ≤ length work
+    → (record_at x 0 ≡ record_at work k) × (more ≡ drop (width * (k + 1)) work) × (width * (k + 1) ≤ length work)
+unfolding record_at
+record_next work rest x more k left next three room =
+    let long : length work ≡ width * k + (width + length more) = omega (arith, length-drop (width * k) work, ap (λ (l : List ℕ). length l) left, ap (λ (l : List ℕ). length l) next, length-append x more, three) in
+    let after : more ≡ drop (width * (k + 1)) work =
+    sym (ap (λ (n : ℕ). drop n (x ++ more)) (sym three) ∙ drop-append_seam x more) ∙ ap (drop width) (sym next ∙ left) ∙ drop-drop width (width * k) work ∙ ap (λ (n : ℕ). drop n work) (omega arith) in
+    let first : get_or x 0 0 ≡ get_or work (width * k) 0 = at 0 (omega arith) ∙ ap (λ (n : ℕ). get_or work n 0) (omega arith) in
+    (rw (first, at 1 (omega arith), at 2 (omega arith)) refl, after, omega (arith, long))
+  where
+    at : (j : ℕ) → j < width → get_or x j 0 ≡ get_or work (width * k + j) 0
+    at j h = sym (get_or-append x more 0 j (omega (arith, three))) ∙ ap (λ (l : List ℕ). get_or l j 0) (sym next ∙ left) ∙ get_or-drop (width * k) work j 0
 
 pub lines_flat : (rs : List WorkRecord) → lines_of (flat rs) ≡ flat_map line_of rs
 unfolding lines_of record_at

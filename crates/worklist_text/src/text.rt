@@ -33,8 +33,8 @@ pub(crate) fn lines_text(work: &[u32]) -> Text
     ensures { result.bytes ≡ lines_of work.now }
 {
     let mut text = Text::new();
-    for k in 0..work.len() / WIDTH {
-        push_line(&mut text, record_at(work, k));
+    for record in work.chunks_exact(WIDTH) {
+        push_line(&mut text, record_at(record, 0));
     }
     text
 }
