@@ -59,6 +59,7 @@ impl Parts {
     }
 }
 
+// Put in its place at each call, as what calls it: a call at each point takes twice to three times as long.
 // Adds value·w·v to each entry. The value at test basis i and trial basis j is `value(i, t)`, where t is what trial basis j brings.
 #[inline(always)]
 fn add_values<T: Copy, B: Fn(usize) -> T, V: Fn(usize, T) -> f64>(
