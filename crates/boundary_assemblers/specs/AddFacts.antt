@@ -1,7 +1,6 @@
 -- What an add needs where nothing turns it down, the ways it ends, and what it comes to. Assumes nothing.
 use Rattle.std.specs.Prelude.{ℕ, zero, suc, ◌+◌, ◌≡◌, refl, Bool, true, false, not, List, ◌∷◌, ◌++◌, length, drop, Float}
 use Rattle.std.proofs.Common.{arith, sym, ap, ◌∙◌, length-take, length-drop, eqb-true}
-use Rattle.std.proofs.lemmas.Bool.{not-true, not-false}
 use Rattle.lists.specs.Bool.{◌and◌}
 use Rattle.lists.specs.Refusals.{Check, check, refusal, refusal_first, refusal_rest, refusal_fails, refusal_passes}
 use Rattle.refusals.specs.declared.Refusal.{Refusal}

@@ -31,7 +31,7 @@ use Rattle.plans.specs.declared.PlanNumbers.{PlanNumbers}
 use Rattle.runs.specs.Runs.{Run, Plan, EntryLists, entry_lists, written, blocks, entries_on, entries_to, ranges_right, counts_right, kinds_fit, plan_right, pair_left, record_right, is_touching, entries_right, entry_place, kinds_put, entries_refusal, add_entries, entries_written, advance, Reply, Answer, accepted, refused}
 use Rattle.boundary_assemblers.specs.RunFacts.{Dims, kind_few, state_number, Passed, Counts, Standing, standing}
 use Rattle.boundary_assemblers.specs.AddFacts.{dofs_long, by_state, by_rest, by_none}
-use Rattle.boundary_assemblers.specs.Forms.{dofs_at, pair_at}
+use Rattle.boundary_assemblers.specs.Forms.{dofs_at}
 use Rattle.boundary_assemblers.specs.declared.Pair.{Pair}
 
 -- 21 reads the elements among the ranges, so that it does no harm to read them again with the entry lists

@@ -34,13 +34,13 @@ abbrev pub answer_of : {A : Type 0} → (A → Answer) → Result A Refusal → 
 answer_of accepts (Ok a) = accepts a
 answer_of accepts (Err n) = Runs.refused (number_of n)
 
--- what look answers, of a run
-abbrev pub looked_of : Run → Result WorkRecord Refusal → Reply
-looked_of r a = record { run = run_of r; answer = answer_of found a }
+-- what look answers, with the run that it hands back
+abbrev pub looked_of : Run × Result WorkRecord Refusal → Reply
+looked_of g = record { run = run_of g.0; answer = answer_of found g.1 }
 
--- what an add or the entries call answers, of the run that it leaves
-abbrev pub added_of : Run → Result ⊤ Refusal → Reply
-added_of r a = record { run = run_of r; answer = answer_of (λ _. accepted) a }
+-- what an add or the entries call answers, with the run that it hands back
+abbrev pub added_of : Run × Result ⊤ Refusal → Reply
+added_of g = record { run = run_of g.0; answer = answer_of (λ _. accepted) g.1 }
 
 -- a cell of one side, by the kind list and the elements
 abbrev pub cell_at : List ℕ → Elements → ℕ → Cell

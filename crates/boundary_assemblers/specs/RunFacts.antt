@@ -1,10 +1,10 @@
 -- What a check of the run that passes says, in numbers, and what the checks of the state answer. Assumes nothing.
 use Rattle.std.specs.Prelude.{ℕ, zero, suc, ◌+◌, ◌*◌, ◌-◌, ◌≤◌, ◌<◌, ◌≡◌, refl, Bool, true, false, cond, ◌⊎◌, List, [], ◌∷◌, length, get_or, eqb}
-use Rattle.std.proofs.Common.{mul-le-mul, arith, sym, ◌∙◌, inl, inr, ⊎_elim, leb-true, eqb-true, ltb-true, eq-eqb, ne_eqb}
+use Rattle.std.proofs.Common.{mul-le-mul, arith, sym, ◌∙◌, ⊎_elim, leb-true, eqb-true, ltb-true, eq-eqb, ne_eqb}
 use Rattle.std.proofs.Math.Path.{ap}
 use Rattle.std.proofs.Math.Bool.{not}
 use Rattle.std.proofs.lemmas.Bool.{eqb-false, not-true}
-use Rattle.lists.specs.Bool.{◌and◌, every, every_at, every_fails, every_of, Each, ◌or◌, and_left, and_right, and_both, and_no_left, and_no_right, or_cases, true≢false}
+use Rattle.lists.specs.Bool.{◌and◌, every, every_at, ◌or◌, and_left, and_right, and_no_left, or_cases, true≢false}
 use Rattle.lists.specs.Total.{gate}
 use Rattle.lists.specs.Refusals.{refusal, refusal_at, answers, accepted, refused as fails, ◌then◌}
 use Rattle.refusals.specs.declared.Refusal.{Refusal}

@@ -69,7 +69,7 @@ impl Run {
         lent: L,
         matrix: &mut [f64],
     ) -> Result<(), Refusal>
-        ensures result_value { added_of self.new result ≡ added_by L.is_taken (λ m n. L.checks self.old.numbers.integrand m n lent) (run_of self.old) (plan_lent plan.entry) matrix.old }
+        ensures result_value { added_of (self.new, result) ≡ added_by L.is_taken (λ m n. L.checks self.old.numbers.integrand m n lent) (run_of self.old) (plan_lent plan.entry) matrix.old }
         ensures matrix_after { matrix.new ≡ matrix_by L.is_taken (λ m n. L.checks self.old.numbers.integrand m n lent) (L.entry self.old.numbers.integrand lent) (run_of self.old) (plan_lent plan.entry) matrix.old }
         ensures refused { OnErr result ((self.new ≡ self.old) × (matrix.new ≡ matrix.old)) }
     {
@@ -84,31 +84,35 @@ impl Run {
         Ok(())
     }
 
-    // Adds the local matrix of a touching pair. Checks 21, 20, 22, 23, then 9 to 11. A refused call leaves the run and the matrix as they were.
+    // Adds the local matrix of a touching pair, and hands the run back. Checks 21, 20, 22, 23, then 9 to 11. A refused call leaves the run and the matrix as they
+    // were.
     pub fn add_touching(
-        &mut self,
+        mut self,
         plan: Plan,
         lent: TouchingNumbers,
         matrix: &mut [f64],
-    ) -> Result<(), Refusal>
-        ensures result_value { added_of self.new result ≡ add_touching (run_of self.old) (plan_lent plan.entry) matrix.old (touching_of lent.entry) }
-        ensures matrix_after { matrix.new ≡ touching_matrix (run_of self.old) (plan_lent plan.entry) matrix.old (touching_of lent.entry) }
-        ensures refused { OnErr result ((self.new ≡ self.old) × (matrix.new ≡ matrix.old)) }
+    ) -> (Run, Result<(), Refusal>)
+        ensures result_value { added_of result ≡ add_touching (run_of self) (plan_lent plan.entry) matrix.old (touching_of lent.entry) }
+        ensures matrix_after { matrix.new ≡ touching_matrix (run_of self) (plan_lent plan.entry) matrix.old (touching_of lent.entry) }
+        ensures refused { OnErr result.1 ((result.0 ≡ self) × (matrix.new ≡ matrix.old)) }
     {
-        self.add(plan, lent, matrix)
+        let answer = self.add(plan, lent, matrix);
+        (self, answer)
     }
 
-    // Adds the local matrix of a distant pair. Checks 21, 20, 22, 23, then 9 to 11. A refused call leaves the run and the matrix as they were.
+    // Adds the local matrix of a distant pair, and hands the run back. Checks 21, 20, 22, 23, then 9 to 11. A refused call leaves the run and the matrix as they
+    // were.
     pub fn add_distant(
-        &mut self,
+        mut self,
         plan: Plan,
         lent: DistantNumbers,
         matrix: &mut [f64],
-    ) -> Result<(), Refusal>
-        ensures result_value { added_of self.new result ≡ add_distant (run_of self.old) (plan_lent plan.entry) matrix.old (distant_of lent.entry) }
-        ensures matrix_after { matrix.new ≡ distant_matrix (run_of self.old) (plan_lent plan.entry) matrix.old (distant_of lent.entry) }
-        ensures refused { OnErr result ((self.new ≡ self.old) × (matrix.new ≡ matrix.old)) }
+    ) -> (Run, Result<(), Refusal>)
+        ensures result_value { added_of result ≡ add_distant (run_of self) (plan_lent plan.entry) matrix.old (distant_of lent.entry) }
+        ensures matrix_after { matrix.new ≡ distant_matrix (run_of self) (plan_lent plan.entry) matrix.old (distant_of lent.entry) }
+        ensures refused { OnErr result.1 ((result.0 ≡ self) × (matrix.new ≡ matrix.old)) }
     {
-        self.add(plan, lent, matrix)
+        let answer = self.add(plan, lent, matrix);
+        (self, answer)
     }
 }

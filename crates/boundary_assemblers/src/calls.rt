@@ -228,11 +228,18 @@ impl Run {
         })
     }
 
-    // Answers record p.
-    pub fn look(&self, plan: Plan) -> Result<WorkRecord, Refusal>
-        ensures { looked_of self.now result ≡ look (run_of self.now) (plan_lent plan.entry) }
+    // Record p.
+    fn record(&self, plan: Plan) -> Result<WorkRecord, Refusal>
+        ensures { looked_of (self.now, result) ≡ look (run_of self.now) (plan_lent plan.entry) }
     {
         let pair = self.state_checked(plan, true)?;
         Ok(pair.item)
+    }
+
+    // Answers record p, and hands the run back.
+    pub fn look(self, plan: Plan) -> (Run, Result<WorkRecord, Refusal>)
+        ensures { looked_of result ≡ look (run_of self) (plan_lent plan.entry) }
+    {
+        (self, self.record(plan))
     }
 }

@@ -114,15 +114,14 @@ impl Run {
         lists.write(at, local_matrix(plan, pair, entries));
     }
 
-    // Writes row, column and value of each entry of a touching pair into three lists. Checks 21, 20, 22, 22 by the kinds, 23, then 9 to 11. A refused call leaves
-    // the run and the lists as they were.
-    pub fn add_entries(
+    // Enters the pair of record p. Checks 21, 20, 22, 22 by the kinds, 23, then 9 to 11.
+    fn enter(
         &mut self,
         plan: Plan,
         lent: TouchingNumbers,
         lists: &mut EntryLists,
     ) -> Result<(), Refusal>
-        ensures result_value { added_of self.new result ≡ add_entries (run_of self.old) (plan_lent plan.entry) (entries_lent lists.old) (touching_of lent.entry) }
+        ensures result_value { added_of (self.new, result) ≡ add_entries (run_of self.old) (plan_lent plan.entry) (entries_lent lists.old) (touching_of lent.entry) }
         ensures values_after { entries_lent lists.new ≡ entries_written (run_of self.old) (plan_lent plan.entry) (entries_lent lists.old) (touching_of lent.entry) }
         ensures refused { OnErr result ((self.new ≡ self.old) × (entries_lent lists.new ≡ entries_lent lists.old)) }
         ensures same { SameLists lists.old lists.new }
@@ -139,5 +138,22 @@ impl Run {
         self.write_entries(plan, pair, &entries, lists);
         self.position += 1;
         Ok(())
+    }
+
+    // Writes row, column and value of each entry of a touching pair into three lists, and hands the run back. Checks 21, 20, 22, 22 by the kinds, 23, then 9 to 11.
+    // A refused call leaves the run and the lists as they were.
+    pub fn add_entries(
+        mut self,
+        plan: Plan,
+        lent: TouchingNumbers,
+        lists: &mut EntryLists,
+    ) -> (Run, Result<(), Refusal>)
+        ensures result_value { added_of result ≡ add_entries (run_of self) (plan_lent plan.entry) (entries_lent lists.old) (touching_of lent.entry) }
+        ensures values_after { entries_lent lists.new ≡ entries_written (run_of self) (plan_lent plan.entry) (entries_lent lists.old) (touching_of lent.entry) }
+        ensures refused { OnErr result.1 ((result.0 ≡ self) × (entries_lent lists.new ≡ entries_lent lists.old)) }
+        ensures same { SameLists lists.old lists.new }
+    {
+        let answer = self.enter(plan, lent, lists);
+        (self, answer)
     }
 }

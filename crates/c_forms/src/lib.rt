@@ -277,10 +277,11 @@ fn no_record() -> CRecord
     }
 }
 
-// What look answers, of the host's run and the run that it stands for.
-pub fn c_looked(c: CRun, run: &Run, answer: Result<WorkRecord, Refusal>) -> CLooked
-    ensures { result ≡ c_looked c (Inner.looked_of run.now answer) }
+// What look answers, of the host's run.
+pub fn c_looked(c: CRun, looked: (Run, Result<WorkRecord, Refusal>)) -> CLooked
+    ensures { result ≡ c_looked c (Inner.looked_of looked) }
 {
+    let (run, answer) = looked;
     let next = c.at(run.position);
     match answer {
         Ok(e) => CLooked {
@@ -296,10 +297,11 @@ pub fn c_looked(c: CRun, run: &Run, answer: Result<WorkRecord, Refusal>) -> CLoo
     }
 }
 
-// What an add or the entries call answers, of the host's run and the run that the call left.
-pub fn c_added(c: CRun, run: &Run, answer: Result<(), Refusal>) -> CAdded
-    ensures { result ≡ c_added c (Inner.added_of run.now answer) }
+// What an add or the entries call answers, of the host's run.
+pub fn c_added(c: CRun, added: (Run, Result<(), Refusal>)) -> CAdded
+    ensures { result ≡ c_added c (Inner.added_of added) }
 {
+    let (run, answer) = added;
     let refusal = match answer {
         Ok(()) => 0,
         Err(refusal) => u32::from(refusal),

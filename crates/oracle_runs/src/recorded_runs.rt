@@ -25,7 +25,9 @@ impl Planning<'_> {
         let mut run = Run::begin_entries(self.counts);
         for places in self.places.iter().skip(self.counts.distant as usize) {
             let lent = self.case.touching(self.numbers, *places);
-            run.add_entries(self.plan, lent, lists)?;
+            let (next, answer) = run.add_entries(self.plan, lent, lists);
+            answer?;
+            run = next;
         }
         Ok(run.position)
     }
@@ -34,13 +36,16 @@ impl Planning<'_> {
     fn play_matrix(self, matrix: &mut [f64]) -> Result<u32, Refusal> {
         let mut run = Run::begin(self.counts);
         for places in self.places {
-            if run.look(self.plan)?.pattern == DISTANT {
+            let (same, record) = run.look(self.plan);
+            let (next, answer) = if record?.pattern == DISTANT {
                 let lent = self.case.distant(self.numbers, *places);
-                run.add_distant(self.plan, lent, matrix)?;
+                same.add_distant(self.plan, lent, matrix)
             } else {
                 let lent = self.case.touching(self.numbers, *places);
-                run.add_touching(self.plan, lent, matrix)?;
-            }
+                same.add_touching(self.plan, lent, matrix)
+            };
+            answer?;
+            run = next;
         }
         Ok(run.position)
     }

@@ -1,5 +1,5 @@
 -- The laws that a loop over the calls needs: none played, one more, and all of them beside the machine. Assumes nothing.
-use Rattle.std.specs.Prelude.{ℕ, zero, suc, ◌+◌, ◌-◌, ◌*◌, ◌/◌, ◌≤◌, ◌≡◌, refl, Bool, true, false, cond, length, get_or, set, take, drop, leb, Float}
+use Rattle.std.specs.Prelude.{ℕ, zero, suc, ◌+◌, ◌-◌, ◌*◌, ◌/◌, ◌≤◌, ◌≡◌, refl, Bool, true, false, cond, length, get_or, take, drop, leb, Float}
 use Prim.Native.Nat.{min}
 use Rattle.std.proofs.Math.Nat.{min-eq_left, min-eq_right}
 use Rattle.std.proofs.Common.{div-mul-le_self, add-one, arith, sym, ◌∙◌, length-append, length-take, length-drop}
@@ -17,7 +17,7 @@ use Rattle.lent_numbers.specs.Lent.{Touching, touching, Distant, distant}
 use Rattle.plans.specs.declared.PlanNumbers.{PlanNumbers}
 use Rattle.plans.specs.Planning.{ready, refused as not_planned, Planning, Lists, plan, plan_numbers, plan_answer, plan_refusal, plan_lists, unless_refused}
 use Rattle.plans.specs.Accepted.{ready_is}
-use Rattle.runs.specs.Runs.{Run, Plan, EntryLists, Reply, Answer, found, accepted, refused, begun, look, add_distant, add_touching, add_entries, distant_matrix, touching_matrix, entries_written}
+use Rattle.runs.specs.Runs.{Run, Plan, EntryLists, Reply, Answer, found, accepted, refused, begun}
 use Rattle.runs.specs.Calls.{Call, looks, adds_distant, adds_touching, adds_entries, Progress, reply_to, matrix_after, lists_after, call, call_all}
 use Rattle.runs.specs.Machine.{machine_of, machine_run}
 use Rattle.runs.specs.Beside.{embed}

@@ -8,7 +8,7 @@ ghost use Rattle.lent_numbers.specs.Forms.{touching_of, distant_of};
 ghost use Rattle.plans.specs.Planning.{plan_lists};
 ghost use Rattle.plans.specs.Lent.{lists_lent, SameLists};
 ghost use Rattle.planning.specs.Arguments.{planning_with};
-ghost use Rattle.runs.specs.Runs.{begun, accepted, refused as not_accepted};
+ghost use Rattle.runs.specs.Runs.{begun, found, accepted, refused as not_accepted};
 ghost use Rattle.refusals.specs.Numbers.{number_of};
 ghost use Rattle.boundary_assemblers.specs.Forms.{run_of, plan_lent, entries_lent, answer_of, SameLists as SameEntries};
 ghost use Rattle.replay.specs.Encoding.{part_of, list_in, distant_in, touching_in, call_of, calls_of, call_count, answer_numbers};
@@ -16,6 +16,7 @@ ghost use Rattle.replay.specs.Replay.{call_lent, outcome_of, replayed, replayed_
 ghost use Rattle.replay.specs.Laws.{standing, Answered, Going};
 
 use boundary_assemblers::Run;
+use cell_pairs::WorkRecord;
 use grid::Mesh;
 use lent_numbers::{DistantNumbers, Side, TouchingNumbers};
 use planning::{Assembly, plan};
@@ -110,6 +111,16 @@ fn refused(refusal: Refusal) -> [u32; 4]
     [2, refusal.number(), 0, 0]
 }
 
+// What look answers, as four numbers.
+fn looked(answer: Result<WorkRecord, Refusal>) -> [u32; 4]
+    ensures { result ≡ answer_numbers (answer_of found answer) }
+{
+    match answer {
+        Ok(e) => [0, e.pattern, e.test, e.trial],
+        Err(refusal) => refused(refusal),
+    }
+}
+
 // What an add answers, as four numbers.
 fn added(answer: Result<(), Refusal>) -> [u32; 4]
     ensures { result ≡ answer_numbers (answer_of (λ _. accepted) answer) }
@@ -128,13 +139,26 @@ impl Call<'_> {
         ensures same { SameEntries lists.old lists.new }
     {
         match self {
-            Call::Look => match run.look(plan) {
-                Ok(e) => [0, e.pattern, e.test, e.trial],
-                Err(refusal) => refused(refusal),
-            },
-            Call::AddDistant(lent) => added(run.add_distant(plan, lent, matrix)),
-            Call::AddTouching(lent) => added(run.add_touching(plan, lent, matrix)),
-            Call::AddEntries(lent) => added(run.add_entries(plan, lent, lists)),
+            Call::Look => {
+                let (next, answer) = run.look(plan);
+                *run = next;
+                looked(answer)
+            }
+            Call::AddDistant(lent) => {
+                let (next, answer) = run.add_distant(plan, lent, matrix);
+                *run = next;
+                added(answer)
+            }
+            Call::AddTouching(lent) => {
+                let (next, answer) = run.add_touching(plan, lent, matrix);
+                *run = next;
+                added(answer)
+            }
+            Call::AddEntries(lent) => {
+                let (next, answer) = run.add_entries(plan, lent, lists);
+                *run = next;
+                added(answer)
+            }
         }
     }
 }

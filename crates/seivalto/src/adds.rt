@@ -34,7 +34,6 @@ pub extern "C" fn seivalto_add_distant(
     ensures matrix_after { matrix.new ≡ distant_matrix (run_of run) (plan_of kinds.now test_dofs.now trial_dofs.now work.now) matrix.old
         (distant test_points trial_points test_weights.now trial_weights.now test_table.now trial_table.now kernel.now test_geometry.now trial_geometry.now) }
 {
-    let mut inner = Run::from(run);
     let plan = Plan {
         kinds,
         test_dofs,
@@ -56,8 +55,7 @@ pub extern "C" fn seivalto_add_distant(
         },
         kernel,
     };
-    let answer = inner.add_distant(plan, lent, matrix);
-    c_added(run, &inner, answer)
+    c_added(run, Run::from(run).add_distant(plan, lent, matrix))
 }
 
 // Adds the local matrix of a touching pair.
@@ -82,7 +80,6 @@ pub extern "C" fn seivalto_add_touching(
     ensures matrix_after { matrix.new ≡ touching_matrix (run_of run) (plan_of kinds.now test_dofs.now trial_dofs.now work.now) matrix.old
         (touching points weights.now test_table.now trial_table.now kernel.now test_geometry.now trial_geometry.now) }
 {
-    let mut inner = Run::from(run);
     let plan = Plan {
         kinds,
         test_dofs,
@@ -98,8 +95,7 @@ pub extern "C" fn seivalto_add_touching(
         test_geometry,
         trial_geometry,
     };
-    let answer = inner.add_touching(plan, lent, matrix);
-    c_added(run, &inner, answer)
+    c_added(run, Run::from(run).add_touching(plan, lent, matrix))
 }
 
 // Writes row, column and value of each entry of a touching pair into three lists.
@@ -129,7 +125,6 @@ pub extern "C" fn seivalto_add_entries(
         (entry_lists rows.old columns.old values.old)
         (touching points weights.now test_table.now trial_table.now kernel.now test_geometry.now trial_geometry.now) }
 {
-    let mut inner = Run::from(run);
     let plan = Plan {
         kinds,
         test_dofs,
@@ -150,6 +145,5 @@ pub extern "C" fn seivalto_add_entries(
         columns,
         values,
     };
-    let answer = inner.add_entries(plan, lent, &mut lists);
-    c_added(run, &inner, answer)
+    c_added(run, Run::from(run).add_entries(plan, lent, &mut lists))
 }

@@ -103,12 +103,11 @@ pub extern "C" fn seivalto_look(
 ) -> CLooked
     ensures { result ≡ c_looked run (look (run_of run) (plan_of kinds.now test_dofs.now trial_dofs.now work.now)) }
 {
-    let inner = Run::from(run);
-    let answer = inner.look(Plan {
+    let plan = Plan {
         kinds,
         test_dofs,
         trial_dofs,
         work,
-    });
-    c_looked(run, &inner, answer)
+    };
+    c_looked(run, Run::from(run).look(plan))
 }

@@ -1,11 +1,11 @@
 -- `boundary_assemblers::Run::add` meets its contract: a refusal is answered as such, and nothing is written; where there is none, the local matrix is added.
 -- Assumes nothing.
-use Rattle.std.proofs.Common.{ℕ, arith, refl, sym, ap, ◌∙◌}
+use Rattle.std.proofs.Common.{ℕ, arith, refl, sym, ap}
 use Rattle.std.specs.Prelude.{Bool, not}
 use Rattle.std.proofs.lemmas.Result.{err_from_is_err_and}
 use Rattle.lists.specs.Bool.{◌and◌, turned, passed}
 use Rattle.boundary_assemblers.specs.Forms.{run_of, plan_lent}
-use Rattle.boundary_assemblers.specs.RunFacts.{Passed, standing}
+use Rattle.boundary_assemblers.specs.RunFacts.{standing}
 use Rattle.boundary_assemblers.specs.AddFacts.{add_by_state, add_by_kind, add_by_lent, add_by_none}
 use Rattle.boundary_assemblers.proofs.Run.add.Goals as goal
 

@@ -4,4 +4,4 @@ use Rattle.boundary_assemblers.proofs.Run.add_distant.Goals as goal
 
 pub returns : goal.returns
 unfolding add_distant distant_matrix distant_refusal
-returns c = record { result_value = c.add.ensures.result_value; matrix_after = c.add.ensures.matrix_after; refused = c.add.ensures.refused }
+returns c = record { result_value = c.add-answer.ensures.result_value; matrix_after = c.add-answer.ensures.matrix_after; refused = c.add-answer.ensures.refused }

@@ -1,5 +1,5 @@
 -- `boundary_assemblers::Run::run_right` meets its contract. Assumes nothing.
-use Rattle.std.proofs.Common.{sym, ◌∙◌}
+use Rattle.std.proofs.Common.{sym}
 use Rattle.lists.specs.Bool.{◌and◌, every_fails, turned, passed}
 use Rattle.boundary_assemblers.specs.RunFacts.{read_by21, all_read, ranges, kinds_matched}
 use Rattle.boundary_assemblers.proofs.Run.run_right.Goals as goal

@@ -1,9 +1,9 @@
--- `boundary_assemblers::Run::look` meets its contract: a refusal is answered as such; where there is none, the checks hand record p on. Assumes nothing.
-use Rattle.std.proofs.Common.{sym, ◌∙◌}
+-- `boundary_assemblers::Run::record` meets its contract: a refusal is answered as such; where there is none, the checks hand record p on. Assumes nothing.
+use Rattle.std.proofs.Common.{sym}
 use Rattle.std.proofs.lemmas.Result.{err_from_is_err_and}
 use Rattle.runs.specs.Runs.{look_refusal, look}
 use Rattle.boundary_assemblers.specs.RunFacts.{reply_refused}
-use Rattle.boundary_assemblers.proofs.Run.look.Goals as goal
+use Rattle.boundary_assemblers.proofs.Run.record.Goals as goal
 
 pub returns-in_err-pair : goal.returns-in_err-pair
 unfolding look look_refusal

@@ -1,4 +1,4 @@
--- `boundary_assemblers::Run::add_entries` meets its contract: a refusal is answered as such, and nothing is written; where there is none, the entries are written.
+-- `boundary_assemblers::Run::enter` meets its contract: a refusal is answered as such, and nothing is written; where there is none, the entries are written.
 -- Assumes nothing.
 use Rattle.std.proofs.Common.{arith, refl, sym, ap, ◌∙◌}
 use Rattle.std.specs.Prelude.{Bool}
@@ -7,9 +7,9 @@ use Rattle.lists.specs.Bool.{◌and◌, and_right, turned, passed}
 use Rattle.lent_numbers.specs.Forms.{touching_of}
 use Rattle.runs.specs.Runs.{is_touching}
 use Rattle.boundary_assemblers.specs.Forms.{run_of, plan_lent, entries_lent}
-use Rattle.boundary_assemblers.specs.RunFacts.{Passed, standing}
+use Rattle.boundary_assemblers.specs.RunFacts.{standing}
 use Rattle.boundary_assemblers.specs.EntryFacts.{sized_same, fit, entries_by_state, entries_by_put, entries_by_kind, entries_by_lent, entries_by_none}
-use Rattle.boundary_assemblers.proofs.Run.add_entries.Goals as goal
+use Rattle.boundary_assemblers.proofs.Run.enter.Goals as goal
 
 pub returns-in_err-pair : goal.returns-in_err-pair
 returns-in_err-pair c =
