@@ -1,5 +1,5 @@
 -- Laws on what is lent: what a point reads, and the sums of the points passed. Assumes nothing.
-use Rattle.std.specs.Prelude.{ℕ, ◌+◌, ◌*◌, ◌<◌, ◌≤◌, ◌≡◌, List, length, replicate, Float}
+use Rattle.std.specs.Prelude.{ℕ, ◌+◌, ◌*◌, ◌<◌, ◌≤◌, ◌≡◌, length, replicate, Float}
 use Rattle.std.proofs.Common.{arith, ◌∙◌, ap}
 use Rattle.std.proofs.Math.Path.{refl, sym}
 use Rattle.std.proofs.lemmas.List.{length-replicate, get_or-replicate}
@@ -152,14 +152,3 @@ touching_begin f a hm hn = zeros (λ i j. touching_sum f a i j 0) hm hn (touchin
 
 pub distant_begin : (f : Integrand) {m n : ℕ} (a : Distant) → m ≤ most_dim → n ≤ most_dim → Held m n (replicate 100 0·0) (λ i j. distant_rows f a i j 0)
 distant_begin f a hm hn = zeros (λ i j. distant_rows f a i j 0) hm hn (distant_start f a)
-
--- ---- dims by their values
-
-pub held_from : {d e m n : ℕ} {xs : List Float} {v : ℕ → ℕ → Float} → (m ≡ d) × (n ≡ e) → Held m n xs v → Held d e xs v
-held_from q h = rw (q.0, q.1) at h
-
-pub held_at : {d e m n : ℕ} {xs : List Float} {v : ℕ → ℕ → Float} → (m ≡ d) × (n ≡ e) → Held d e xs v → Held m n xs v
-held_at q h = rw (q.0, q.1) h
-
-pub fits_at : {f : Integrand} {d e m n : ℕ} {a : Distant} → (m ≡ d) × (n ≡ e) → DistantFits f m n a → DistantFits f d e a
-fits_at q h = rw (q.0, q.1) at h
