@@ -1,10 +1,48 @@
-// A lent table at a point: row values of its basis functions, as `Table` of the Rust's integrands.
+// A lent table, and a thin view of it that gives row values at a point and a basis function, as `Table` of the Rust's integrands.
 #![tactic(auto)]
 
 ghost use Rattle.std.specs.Prelude.{◌≡◌, ◌<◌};
 ghost use Rattle.table.specs.Rows.{table_row, Reach};
 
-// The table's values, its rows D, points P and basis functions, and a point.
+// The view: the table's values, its rows D and points P, and a point and a basis number.
+#[derive(Clone, Copy)]
+pub struct View<'a> {
+    pub values: &'a [f64],
+    pub rows: usize,
+    pub points: usize,
+    pub point: usize,
+    pub basis: usize,
+}
+
+impl<'a> View<'a> {
+    pub fn new(
+        values: &'a [f64],
+        rows: usize,
+        points: usize,
+        point: usize,
+        basis: usize,
+    ) -> View<'a>
+        ensures { (result.values ≡ values.entry) × (result.rows ≡ rows) × (result.points ≡ points) × (result.point ≡ point) × (result.basis ≡ basis) }
+    {
+        View {
+            values,
+            rows,
+            points,
+            point,
+            basis,
+        }
+    }
+
+    // Row i: it stands at i + D(p + P·f).
+    pub fn get(self, i: usize) -> f64
+        requires { Reach self.rows self.points self.point self.basis self.values.now × (i < self.rows) }
+        ensures { result ≡ table_row self.entry.values.now self.entry.rows self.entry.points self.entry.point self.entry.basis i }
+    {
+        self.values[i + self.rows * (self.point + self.points * self.basis)]
+    }
+}
+
+// A lent table at a point: its values, its rows D, points P and basis functions, and the point.
 #[derive(Clone, Copy)]
 pub struct Table<'a> {
     pub values: &'a [f64],
@@ -27,11 +65,11 @@ impl<'a> Table<'a> {
         }
     }
 
-    // Row i of a basis function: it stands at i + D(p + P·f).
+    // Row i of a basis function.
     pub fn get(self, basis: usize, i: usize) -> f64
         requires { Reach self.rows self.points self.point basis self.values.now × (i < self.rows) }
         ensures { result ≡ table_row self.entry.values.now self.entry.rows self.entry.points self.entry.point basis i }
     {
-        self.values[i + self.rows * (self.point + self.points * basis)]
+        View::new(self.values, self.rows, self.points, self.point, basis).get(i)
     }
 }
