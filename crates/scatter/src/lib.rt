@@ -1,8 +1,7 @@
 // A local matrix put into the dense matrix, and into entry lists. Its entry (i, j) stands at i + m·j, m test DOFs; the order is trial basis outer.
 #![tactic(auto)]
 
-ghost use Rattle.function.specs.Elements.{most_dim};
-ghost use Rattle.std.specs.Prelude.{◌≡◌, ℕ, ◌+◌, ◌*◌, ◌≤◌, ◌<◌, length};
+ghost use Rattle.std.specs.Prelude.{◌≡◌, ℕ, ◌+◌, ◌*◌, ◌<◌, length};
 ghost use Rattle.std.proofs.lemmas.List.Edits.{sets};
 ghost use Rattle.numbers.specs.Floats.{◌!◌};
 ghost use Rattle.scatter.specs.Adding.{add_local, local_rows, local_columns, local_values};
