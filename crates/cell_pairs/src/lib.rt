@@ -13,7 +13,7 @@ pub const WIDTH: usize = 3;
 // How many patterns touching pairs have: they are the numbers below this.
 pub const PATTERNS: usize = 149;
 
-// Stands where there is no pattern: one more than the last.
+// One more than the last pattern: a number below it is a pattern.
 pub const NO_PATTERN: u32 = PATTERNS as u32;
 
 // The pattern of a distant pair.

@@ -24,7 +24,7 @@ use triangle_patterns::{triangles_pattern, triangles_right};
 // ---- rows
 
 // Whether cells i and j are both triangles.
-fn both_triangles(rows: Rows<'_>, i: usize, j: usize) -> bool
+fn both_triangles(rows: Rows, i: usize, j: usize) -> bool
     requires { (4 * i + 4 ≤ length rows.rows.now) × (4 * j + 4 ≤ length rows.rows.now) }
     ensures { result ≡ (eqb (entity rows.entry.rows.now i 3) rows.entry.none and eqb (entity rows.entry.rows.now j 3) rows.entry.none) }
 {
@@ -32,7 +32,7 @@ fn both_triangles(rows: Rows<'_>, i: usize, j: usize) -> bool
 }
 
 // The pattern of test cell i and trial cell j, if the table has it. No cell may have a vertex twice.
-pub fn pattern_of(rows: Rows<'_>, i: usize, j: usize) -> Option<u32>
+pub fn pattern_of(rows: Rows, i: usize, j: usize) -> Option<u32>
     requires i_in_bounds { (4 * i + 4 ≤ length rows.rows.now) × (4 * j + 4 ≤ length rows.rows.now) }
     requires i_value { (distinct_in rows.none rows.rows.now i ≡ true) × (distinct_in rows.none rows.rows.now j ≡ true) }
     ensures { IsPattern result (pattern_in rows.entry.none rows.entry.rows.now i j) }
@@ -51,19 +51,18 @@ fn lower_of(counts: bool, x: usize, m: usize) -> usize
     if counts & (x < m) { x } else { m }
 }
 
-// The smallest vertex that cells i and j share; `none`, which is above all vertices, where they share none. It stands in the fourth place of a triangle too, and
-// is no lower than what is found before it. A number and not an Option: so each step is the lower of two, with no branch.
-pub fn smallest_shared(rows: Rows<'_>, i: usize, j: usize) -> usize
+// The smallest vertex that cells i and j share, of those below top; top where they share none. With `none` as top, which is above all vertices, what stands in the
+// fourth place of a triangle is no lower than what is found before it. A number and not an Option, since each step is the lower of two, whether one is found or not.
+pub fn smallest_shared(rows: Rows, top: usize, i: usize, j: usize) -> usize
     requires { (4 * i + 4 ≤ length rows.rows.now) × (4 * j + 4 ≤ length rows.rows.now) }
-    ensures { result ≡ smallest_in rows.entry.none rows.entry.rows.now i j }
+    ensures { result ≡ smallest_in top rows.entry.rows.now i j }
 {
     let at = 4 * i;
     let x = rows.rows[at];
     let y = rows.rows[at + 1];
     let z = rows.rows[at + 2];
     let w = rows.rows[at + 3];
-    let none = wide(rows.none);
-    let l = lower_of(rows.has_entity(j, x), wide(x), none);
+    let l = lower_of(rows.has_entity(j, x), wide(x), top);
     let m = lower_of(rows.has_entity(j, y), wide(y), l);
     let n = lower_of(rows.has_entity(j, z), wide(z), m);
     lower_of(rows.has_entity(j, w), wide(w), n)
@@ -72,7 +71,7 @@ pub fn smallest_shared(rows: Rows<'_>, i: usize, j: usize) -> usize
 // ---- check 7
 
 // Whether cells i and j share no vertex or have a pattern.
-fn pair_right(rows: Rows<'_>, i: usize, j: usize) -> bool
+fn pair_right(rows: Rows, i: usize, j: usize) -> bool
     requires i_in_bounds { (4 * i + 4 ≤ length rows.rows.now) × (4 * j + 4 ≤ length rows.rows.now) }
     requires apart { Apart rows.none rows.rows.now }
     ensures { result ≡ pair_right rows.entry.none rows.entry.rows.now i j }
@@ -85,7 +84,7 @@ fn pair_right(rows: Rows<'_>, i: usize, j: usize) -> bool
 }
 
 // Check 7 of test cell i against the cells of a list.
-fn row_right(rows: Rows<'_>, cells: &[u32], i: usize) -> bool
+fn row_right(rows: Rows, cells: &[u32], i: usize) -> bool
     requires cells { Cells rows.rows.now cells.now }
     requires apart { Apart rows.none rows.rows.now }
     requires i_in_bounds { 4 * i + 4 ≤ length rows.rows.now }
@@ -95,7 +94,7 @@ fn row_right(rows: Rows<'_>, cells: &[u32], i: usize) -> bool
 }
 
 // Check 7 of the cells of a list against each other.
-fn group_right(rows: Rows<'_>, cells: &[u32]) -> bool
+fn group_right(rows: Rows, cells: &[u32]) -> bool
     requires cells { Cells rows.rows.now cells.now }
     requires apart { Apart rows.none rows.rows.now }
     ensures { result ≡ group_right rows.entry.none rows.entry.rows.now cells.now }
@@ -104,7 +103,7 @@ fn group_right(rows: Rows<'_>, cells: &[u32]) -> bool
 }
 
 // Check 7 of the cells at each vertex. The groups are the cells at vertex 0, then those at vertex 1 and so on.
-fn groups_right(rows: Rows<'_>, groups: Groups<'_>) -> bool
+fn groups_right(rows: Rows, groups: Groups) -> bool
     requires cut { Cut rows.rows.now groups.order.now groups.ends.now }
     requires apart { Apart rows.none rows.rows.now }
     requires none_in_bounds { rows.none ≤ length groups.ends.now }
@@ -114,7 +113,7 @@ fn groups_right(rows: Rows<'_>, groups: Groups<'_>) -> bool
 }
 
 // Check 7, by way of two lists: the cells by vertex and where each vertex's end, last those of `none`.
-fn sorted_right(rows: Rows<'_>, order: &mut [u32], ends: &mut [usize]) -> bool
+fn sorted_right(rows: Rows, order: &mut [u32], ends: &mut [usize]) -> bool
     requires below { Below rows.rows.now (length ends.old) }
     requires zeros { Zeros ends.old }
     requires rows_len { (length rows.rows.now ≡ 4 * (length rows.rows.now / 4)) × (length rows.rows.now < 2 ^ 32) × (length order.old ≡ length rows.rows.now) × (length ends.old ≡ rows.none + 1) }
@@ -124,16 +123,13 @@ fn sorted_right(rows: Rows<'_>, order: &mut [u32], ends: &mut [usize]) -> bool
     by_key(rows.rows, 4, ends, order);
     groups_right(
         rows,
-        Groups {
-            order: order,
-            ends: ends,
-        },
+        Groups { order, ends },
     )
 }
 
 // Check 7: each ordered pair of cells that shares a vertex has a pattern of the table. The vertices of the cells are below `none`. The lists have fixed sizes, since
 // nothing is allocated.
-pub fn patterns_right(cells: usize, rows: Rows<'_>) -> bool
+pub fn patterns_right(cells: usize, rows: Rows) -> bool
     requires rows_len { (length rows.rows.now ≡ 4 * cells) × (cells ≤ most_cells) × (rows.none ≤ most_vertices) }
     requires below { Below rows.rows.now (rows.none + 1) }
     requires padded { Padded rows.none rows.rows.now }

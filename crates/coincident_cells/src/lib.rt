@@ -29,7 +29,7 @@ fn same_vertices(cell: &[u32], other: &[u32]) -> bool
 }
 
 // Whether cell j is earlier than cell i and has the same vertices.
-fn coincide(rows: Rows<'_>, i: usize, j: usize) -> bool
+fn coincide(rows: Rows, i: usize, j: usize) -> bool
     requires { (4 * i + 4 ≤ length rows.rows.now) × (4 * j + 4 ≤ length rows.rows.now) }
     ensures { result ≡ earlier rows.entry.none rows.entry.rows.now i j }
 {
@@ -37,7 +37,7 @@ fn coincide(rows: Rows<'_>, i: usize, j: usize) -> bool
 }
 
 // Whether none of the cells of a list is earlier than cell i and has the same vertices.
-fn alone(rows: Rows<'_>, cells: &[u32], i: usize) -> bool
+fn alone(rows: Rows, cells: &[u32], i: usize) -> bool
     requires cells { Cells rows.rows.now cells.now }
     requires i_in_bounds { 4 * i + 4 ≤ length rows.rows.now }
     ensures { result ≡ all (length cells.now) (λ k. not (earlier rows.entry.none rows.entry.rows.now i (get_or cells.now k 0))) }
@@ -46,7 +46,7 @@ fn alone(rows: Rows<'_>, cells: &[u32], i: usize) -> bool
 }
 
 // Of two vertices the one at which fewer cells meet.
-fn rarer(groups: Groups<'_>, v: usize, w: usize) -> usize
+fn rarer(groups: Groups, v: usize, w: usize) -> usize
     requires v_in_bounds { (v < length groups.ends.now) × (w < length groups.ends.now) }
     requires rise { Rise groups.ends.now }
     ensures { (result ≡ v) ⊎ (result ≡ w) }
@@ -59,7 +59,7 @@ fn rarer(groups: Groups<'_>, v: usize, w: usize) -> usize
 }
 
 // Of the first three vertices of cell i one at which the fewest cells meet: on a fan it is not the hub.
-fn rarest(rows: Rows<'_>, groups: Groups<'_>, i: usize) -> usize
+fn rarest(rows: Rows, groups: Groups, i: usize) -> usize
     requires i_in_bounds { 4 * i + 4 ≤ length rows.rows.now }
     requires by_index { (k : ℕ) → k < length rows.rows.now → get_or rows.rows.now k 0 < length groups.ends.now }
     requires rise { Rise groups.ends.now }
@@ -73,7 +73,7 @@ fn rarest(rows: Rows<'_>, groups: Groups<'_>, i: usize) -> usize
 }
 
 // Whether cell i has not the same vertices as an earlier cell.
-fn differs(rows: Rows<'_>, groups: Groups<'_>, i: usize) -> bool
+fn differs(rows: Rows, groups: Groups, i: usize) -> bool
     requires rows_len { length rows.rows.now ≡ 4 * (length rows.rows.now / 4) }
     requires by_entity { ByEntity rows.rows.now groups.order.now groups.ends.now }
     requires i_in_bounds { i < length rows.rows.now / 4 }
@@ -83,7 +83,7 @@ fn differs(rows: Rows<'_>, groups: Groups<'_>, i: usize) -> bool
 }
 
 // Whether no cell has the same vertices as an earlier one. The groups are the cells at vertex 0, then those at vertex 1 and so on.
-pub fn cells_differ(rows: Rows<'_>, groups: Groups<'_>) -> bool
+pub fn cells_differ(rows: Rows, groups: Groups) -> bool
     requires rows_len { length rows.rows.now ≡ 4 * (length rows.rows.now / 4) }
     requires by_entity { ByEntity rows.rows.now groups.order.now groups.ends.now }
     ensures { result ≡ differ_in rows.entry.none (length rows.entry.rows.now / 4) rows.entry.rows.now }

@@ -1,8 +1,6 @@
-// Writes the distant part of the work list: a small function for each loop of the order, each with a
-// contract of one form, `Wrote ..`: the lent list is as it was with these records written from a place
-// on, and the result is the place after them. Cells are read by their rows; an order holds the cells
-// group after group, colour by colour of the triangles and then of the quads, and its ends where each
-// group's end.
+// Writes the distant part of the work list: from the record of a pair up to all pairs, each function with a contract of one form, `Wrote ..`: the lent list is as
+// it was with these records written from a place on, and the result is the place after them. Cells are read by their rows; the groups of a side are colour by
+// colour of the triangles and then of the quads.
 #![tactic(auto)]
 
 ghost use Rattle.std.specs.Prelude.{◌≡◌, [], ◌∷◌, ◌+◌, ◌*◌, ◌≤◌, ◌<◌, length};
@@ -29,7 +27,7 @@ struct Vertices {
     fourth: u32,
 }
 
-// Whether x is one of the vertices. With no way out before the end, here and below, it is compiled to several comparisons at a time.
+// Whether x is one of the vertices. By `|` and not `||`, here and below, it is compiled to several comparisons at a time.
 fn is_one_of(v: Vertices, x: u32) -> bool
     ensures { result ≡ has (v.first ∷ v.second ∷ v.third ∷ v.fourth ∷ []) x }
 {
@@ -37,7 +35,7 @@ fn is_one_of(v: Vertices, x: u32) -> bool
 }
 
 // Whether one of the vertices is in the cell's row.
-fn has_one_of(rows: Rows<'_>, cell: usize, v: Vertices) -> bool
+fn has_one_of(rows: Rows, cell: usize, v: Vertices) -> bool
     requires { 4 * cell + 4 ≤ length rows.rows.now }
     ensures { result ≡ has_one_of rows.entry.rows.now cell v.first v.second v.third v.fourth }
 {
@@ -50,7 +48,7 @@ fn has_one_of(rows: Rows<'_>, cell: usize, v: Vertices) -> bool
 
 // The record of a pair of cells, if they are distant. The vertices are those of the trial cell.
 fn write_pair(
-    rows: Rows<'_>,
+    rows: Rows,
     test: u32,
     trial: u32,
     v: Vertices,
@@ -69,15 +67,15 @@ fn write_pair(
             at,
             WorkRecord {
                 pattern: DISTANT,
-                test: test,
-                trial: trial,
+                test,
+                trial,
             },
         )
     }
 }
 
 // One trial cell against a batch of test cells.
-fn write_row(rows: Rows<'_>, tests: &[u32], trial: u32, work: &mut [u32], at: usize) -> usize
+fn write_row(rows: Rows, tests: &[u32], trial: u32, work: &mut [u32], at: usize) -> usize
     requires padded { Padded rows.none rows.rows.now }
     requires cells { Cells rows.rows.now tests.now }
     requires trial_in_bounds { 4 * trial + 4 ≤ length rows.rows.now }
@@ -101,7 +99,7 @@ fn write_row(rows: Rows<'_>, tests: &[u32], trial: u32, work: &mut [u32], at: us
 }
 
 // A batch of trial cells against a batch of test cells.
-fn write_batch(rows: Rows<'_>, tests: &[u32], trials: &[u32], work: &mut [u32], at: usize) -> usize
+fn write_batch(rows: Rows, tests: &[u32], trials: &[u32], work: &mut [u32], at: usize) -> usize
     requires padded { Padded rows.none rows.rows.now }
     requires cells { Cells rows.rows.now tests.now }
     requires cells_2 { Cells rows.rows.now trials.now }
@@ -118,7 +116,7 @@ fn write_batch(rows: Rows<'_>, tests: &[u32], trials: &[u32], work: &mut [u32], 
 
 // Each batch of the test cells of a colour against each batch of the trial cells of a colour.
 fn write_colours(
-    rows: Rows<'_>,
+    rows: Rows,
     batch: usize,
     tests: &[u32],
     trials: &[u32],
@@ -145,11 +143,11 @@ fn write_colours(
 // Each colour of the test cells of a kind against each colour of the trial cells of a kind. A kind is 0, triangles, or 1, quads: the number of groups of which it
 // is so many halves on.
 fn write_kinds(
-    rows: Rows<'_>,
+    rows: Rows,
     batch: usize,
-    tests: Groups<'_>,
+    tests: Groups,
     test_kind: usize,
-    trials: Groups<'_>,
+    trials: Groups,
     trial_kind: usize,
     work: &mut [u32],
     at: usize,
@@ -177,7 +175,7 @@ fn write_kinds(
 }
 
 // Whether there are cells of a kind.
-fn has_cells(groups: Groups<'_>, kind: usize) -> bool
+fn has_cells(groups: Groups, kind: usize) -> bool
     requires { kind < 2 }
     ensures { result ≡ has_cells groups.entry.ends.now kind }
 {
@@ -188,10 +186,10 @@ fn has_cells(groups: Groups<'_>, kind: usize) -> bool
 
 // All distant pairs, from the front of the work list on: how many there are. Where there are no cells of one of two kinds, their groups are not looked at.
 pub fn write_distant(
-    rows: Rows<'_>,
+    rows: Rows,
     batch: usize,
-    tests: Groups<'_>,
-    trials: Groups<'_>,
+    tests: Groups,
+    trials: Groups,
     work: &mut [u32],
 ) -> usize
     requires batch_nonzero { (0 < batch) × (batch ≤ most_batch) }

@@ -77,7 +77,7 @@ fn next_colour(
     first_unmarked(marks, i)
 }
 
-// The colours of all cells, by their rows and the cells by entity.
+// The colours of all cells, by their rows and the cells by entity. The marks have a fixed size, since nothing is allocated.
 fn colour_grouped(rows: Rows, groups: Groups, colours: &mut [u32])
     requires by_entity { ByEntity rows.rows.now groups.order.now groups.ends.now × Padded rows.none rows.rows.now }
     requires rows_len { (length rows.rows.now ≡ 4 * length colours.old) × (length colours.old ≤ most_cells) }
@@ -90,7 +90,8 @@ fn colour_grouped(rows: Rows, groups: Groups, colours: &mut [u32])
     }
 }
 
-// The colours of all cells, by the entities of one list, which are below top. The rows and the cells by entity are alive here alone.
+// The colours of all cells, by the entities of one list, which are below top. The rows and the cells by entity are alive here alone, in lists
+// of fixed sizes, since nothing is allocated.
 fn colour_cells(kinds: &[u8], list: &[u32], top: u32, colours: &mut [u32])
     requires { Listed top kinds.now list.now colours.old }
     ensures { colours.new ≡ colours_to (share_in kinds.now list.now) (length colours.old) }

@@ -53,7 +53,7 @@ fn may_have(keys: &[u32; MOST_EDGES], count: usize, edge: usize, key: u32) -> bo
 }
 
 // Whether each edge, of so many, has one key at all its places, and no two edges have the same, where the keys of the edge places are given. An edge that no place
-// passed has is marked with NO_KEY; those past the largest number so far are not looked at.
+// passed has is marked with NO_KEY; those past the largest number so far are not looked at. The list has a fixed size, since nothing is allocated.
 fn keys_agree(places: &[u32], edges: &[u32], count: usize) -> bool
     requires { Numbered places.now edges.now count }
     ensures { result ≡ keys_agree places.now edges.now }
@@ -71,7 +71,7 @@ fn keys_agree(places: &[u32], edges: &[u32], count: usize) -> bool
     true
 }
 
-// The edge rule, of so many edges, by way of a list of the keys of the edge places.
+// The edge rule, of so many edges, by way of a list of the keys of the edge places, of a fixed size, since nothing is allocated.
 pub(crate) fn keeps_edge_rule(kinds: &[u8], vertices: &[u32], edges: &[u32], count: usize) -> bool
     requires shaped { Shaped kinds.now vertices.now × (all_below vertices.now most_vertices ≡ true) }
     requires numbered { Numbered (edge_keys kinds.now vertices.now (length kinds.now)) edges.now count }

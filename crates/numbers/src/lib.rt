@@ -1,4 +1,4 @@
-// Whole numbers and floats: widening, ranges, bounds, and which floats are finite.
+// Whole numbers and floats: widening, a bound of each number of a list, and which floats are finite.
 #![tactic(auto)]
 
 ghost use Rattle.std.specs.Prelude.{◌≡◌};
@@ -19,7 +19,7 @@ pub fn all_below(list: &[u32], bound: u32) -> bool
     list.iter().all(|&x| x < bound)
 }
 
-// Neither infinite nor a NaN.
+// Neither infinite nor a NaN. A function of its own, since its contract says `finite`, the documents' word, where the library's says how it is found.
 pub fn is_finite(x: f64) -> bool
     ensures { result ≡ finite x }
 {

@@ -15,7 +15,7 @@ ghost use Rattle.triangle_patterns.specs.TrianglesFacts.{three_pattern};
 use grid::Rows;
 
 // The place of the vertex x in a triangle, 3 where it has none. A number and not an Option, since it is two bits of a case, and three tests are no longer than a search.
-fn place_of(rows: Rows<'_>, cell: usize, x: u32) -> u32
+fn place_of(rows: Rows, cell: usize, x: u32) -> u32
     requires { 4 * cell + 4 ≤ length rows.rows.now }
     ensures { result ≡ place (three rows.entry.rows.now cell) x }
 {
@@ -82,7 +82,7 @@ fn pattern_at(a: u32, b: u32, c: u32) -> Option<u32>
 }
 
 // The pattern of triangles i and j, if the table has it. Neither may have a vertex twice.
-pub fn triangles_pattern(rows: Rows<'_>, i: usize, j: usize) -> Option<u32>
+pub fn triangles_pattern(rows: Rows, i: usize, j: usize) -> Option<u32>
     requires i_in_bounds { (4 * i + 4 ≤ length rows.rows.now) × (4 * j + 4 ≤ length rows.rows.now) }
     requires i_value { (distinct (three rows.rows.now i) ≡ true) × (distinct (three rows.rows.now j) ≡ true) }
     ensures { IsPattern result (cells_pattern (three rows.entry.rows.now i) (three rows.entry.rows.now j)) }
@@ -95,7 +95,7 @@ pub fn triangles_pattern(rows: Rows<'_>, i: usize, j: usize) -> Option<u32>
 }
 
 // Check 7 of triangles i and j: the lists of two that share three vertices must be the same. The fourth number of row i is no vertex of j.
-pub fn triangles_right(rows: Rows<'_>, i: usize, j: usize) -> bool
+pub fn triangles_right(rows: Rows, i: usize, j: usize) -> bool
     requires i_in_bounds { (4 * i + 4 ≤ length rows.rows.now) × (4 * j + 4 ≤ length rows.rows.now) }
     requires i_value { (distinct (three rows.rows.now i) ≡ true) × (distinct (three rows.rows.now j) ≡ true) }
     requires by_index { (p : ℕ) → p < 3 → entity rows.rows.now j p ≡ entity rows.rows.now i 3 → ⊥ }
