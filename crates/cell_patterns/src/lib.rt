@@ -4,14 +4,14 @@
 
 mod shared; // shared.rt: cells of any kinds
 
-ghost use Rattle.std.specs.Prelude.{◌≡◌, true, ℕ, ◌+◌, ◌*◌, ◌/◌, ◌^◌, ◌≤◌, ◌<◌, length, get_or, eqb};
+ghost use Rattle.std.specs.Prelude.{◌≡◌, true, ℕ, ◌+◌, ◌*◌, ◌/◌, ◌^◌, ◌≤◌, ◌<◌, length, eqb};
 ghost use Rattle.lists.specs.Bool.{◌and◌};
 ghost use Rattle.lists.specs.Bounded.{all};
 ghost use Rattle.grid.specs.Rows.{entity};
 ghost use Rattle.grid.specs.RowsFacts.{Padded};
 ghost use Rattle.grid.specs.Mesh.{most_cells, most_vertices};
 ghost use Rattle.cell_pairs.specs.Records.{IsPattern};
-ghost use Rattle.cells_by_key.specs.Groups.{Cells, Cut, Below, Zeros, part};
+ghost use Rattle.cells_by_key.specs.Groups.{Cells, Cut, Below, part};
 ghost use Rattle.cell_patterns.specs.Flat.{distinct_in, pattern_in, smallest_in, pair_right, patterns_in};
 ghost use Rattle.cell_patterns.specs.PatternFacts.{Apart, row_right, group_right, lower};
 
@@ -112,23 +112,8 @@ fn groups_right(rows: Rows, groups: Groups) -> bool
     (0..wide(rows.none)).all(|v| group_right(rows, groups.group(v)))
 }
 
-// Check 7, by way of two lists: the cells by vertex and where each vertex's end, last those of `none`.
-fn sorted_right(rows: Rows, order: &mut [u32], ends: &mut [usize]) -> bool
-    requires below { Below rows.rows.now (length ends.old) }
-    requires zeros { Zeros ends.old }
-    requires rows_len { (length rows.rows.now ≡ 4 * (length rows.rows.now / 4)) × (length rows.rows.now < 2 ^ 32) × (length order.old ≡ length rows.rows.now) × (length ends.old ≡ rows.none + 1) }
-    requires apart { Apart rows.none rows.rows.now }
-    ensures { result ≡ patterns_in rows.entry.none (length rows.entry.rows.now / 4) rows.entry.rows.now }
-{
-    by_key(rows.rows, 4, ends, order);
-    groups_right(
-        rows,
-        Groups { order, ends },
-    )
-}
-
-// Check 7: each ordered pair of cells that shares a vertex has a pattern of the table. The vertices of the cells are below `none`. The lists have fixed sizes, since
-// nothing is allocated.
+// Check 7: each ordered pair of cells that shares a vertex has a pattern of the table, by way of the cells at each vertex. The vertices of the cells are below
+// `none`. The lists have fixed sizes, since nothing is allocated.
 pub fn patterns_right(cells: usize, rows: Rows) -> bool
     requires rows_len { (length rows.rows.now ≡ 4 * cells) × (cells ≤ most_cells) × (rows.none ≤ most_vertices) }
     requires below { Below rows.rows.now (rows.none + 1) }
@@ -138,7 +123,10 @@ pub fn patterns_right(cells: usize, rows: Rows) -> bool
 {
     let n = 4 * cells;
     let groups = wide(rows.none) + 1;
-    let mut order = [0u32; 4 * MOST_CELLS];
-    let mut ends = [0usize; MOST_VERTICES + 1];
-    sorted_right(rows, &mut order[..n], &mut ends[..groups])
+    let mut order = [0; 4 * MOST_CELLS];
+    let mut ends = [0; MOST_VERTICES + 1];
+    let order = &mut order[..n];
+    let ends = &mut ends[..groups];
+    by_key(rows.rows, 4, ends, order);
+    groups_right(rows, Groups { order, ends })
 }

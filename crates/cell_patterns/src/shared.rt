@@ -91,26 +91,26 @@ fn block_start(n: u32, k: u32) -> u32
     }
 }
 
-// The place inside the block of test kind n and trial kind k that the formula gives the shared vertices.
-fn in_block(n: u32, k: u32, shared: &[SharedVertex]) -> u32
+// The place inside the block of test kind n and trial kind k that the formula gives the shared vertices, if there are any.
+fn in_block(n: u32, k: u32, shared: &[SharedVertex]) -> Option<u32>
     requires le_n { (3 ≤ n) × (n ≤ 4) × (3 ≤ k) × (k ≤ 4) × (length shared.now ≤ 4) }
     requires small { AllIn Small shared.now }
-    ensures { (result ≡ in_block n k (matches_in shared.now)) × (result ≤ 149) }
+    ensures { IsPattern result (in_block n k (matches_in shared.now)) }
 {
     match shared {
-        [] => NO_PATTERN,
-        [s] => k * s.test + s.trial,
+        [] => None,
+        [s] => Some(k * s.test + s.trial),
         [s, t] => {
             let e = edge_joining(n, s.test, t.test);
             let g = edge_joining(k, s.trial, t.trial);
             let place = n * k + 2 * (k * e + g);
             if s.test == second_of(n, e) {
-                place + 1
+                Some(place + 1)
             } else {
-                place
+                Some(place)
             }
         }
-        _ => 3 * (n * k),
+        _ => Some(3 * (n * k)),
     }
 }
 
@@ -120,7 +120,7 @@ fn number_of(n: u32, k: u32, shared: &[SharedVertex]) -> Option<u32>
     requires small { AllIn Small shared.now }
     ensures { IsPattern result (number_of (pattern n k (matches_in shared.now))) }
 {
-    let r = block_start(n, k) + in_block(n, k, shared);
+    let r = block_start(n, k) + in_block(n, k, shared)?;
     if r < NO_PATTERN {
         if table_row(r as usize) == code_of(n, k, shared) {
             return Some(r);

@@ -47,14 +47,7 @@ fn has_one_of(rows: Rows, cell: usize, v: Vertices) -> bool
 }
 
 // The record of a pair of cells, if they are distant. The vertices are those of the trial cell.
-fn write_pair(
-    rows: Rows,
-    test: u32,
-    trial: u32,
-    v: Vertices,
-    work: &mut [u32],
-    at: usize,
-) -> usize
+fn write_pair(rows: Rows, test: u32, trial: u32, v: Vertices, work: &mut [u32], at: usize) -> usize
     requires test_in_bounds { 4 * test + 4 ≤ length rows.rows.now }
     requires room { Room records work.old at (distant_pair (λ i _. has_one_of rows.rows.now i v.first v.second v.third v.fourth) test trial) }
     ensures { Wrote records work.old work.new at result (distant_pair (λ i _. has_one_of rows.entry.rows.now i v.first v.second v.third v.fourth) test trial) }

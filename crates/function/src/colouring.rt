@@ -6,7 +6,7 @@ ghost use Rattle.grid.specs.Cells.{share_in};
 ghost use Rattle.grid.specs.Rows.{share};
 ghost use Rattle.grid.specs.RowsFacts.{Padded};
 ghost use Rattle.grid.specs.Mesh.{most_cells, kinds_present};
-ghost use Rattle.cells_by_key.specs.Groups.{ByEntity, Zeros};
+ghost use Rattle.cells_by_key.specs.Groups.{ByEntity};
 ghost use Rattle.function.specs.Colours.{taken, smallest, colours_to, colour_list, colour_count, Colourable};
 ghost use Rattle.function.specs.ColoursFacts.{colour_to, Marked, Marks, Earlier, Listed};
 ghost use Rattle.function.specs.Lent.{space_lent};

@@ -1,22 +1,21 @@
 -- The edge rule as the code reads it: each two vertices have a key, and each edge number keeps the key of its first place. Assumes nothing.
-use Prim.Native.Nat.{ℕ, suc, ◌+◌, ◌-◌, ◌*◌, ◌<◌, ◌≤◌}
+use Prim.Native.Nat.{ℕ, ◌+◌, ◌-◌, ◌*◌, ◌<◌, ◌≤◌}
 use Rattle.std.proofs.Common.{not-suc-le-zero, lt_irrefl, add-one, arith, ◌∙◌, length-set, get_or-set_same, get_or-set_other}
 use Rattle.std.proofs.Math.Nat.{zero-add}
-use Rattle.std.proofs.Math.Numerals.{add-two}
 use Rattle.std.specs.Prelude.{Bool, false, cond, ◌≡◌, refl, ◌⊎◌, set, take, drop, replicate, eqb}
 use Rattle.std.proofs.Math.Bool.{true, not}
 use Rattle.std.proofs.Math.Path.{sym, ap, ap₂, subst}
 use Rattle.std.proofs.Math.Logic.{inl, inr, ⊎_elim}
-use mathlib.Core.List.{List, [], ◌∷◌, flat_map, map}
+use mathlib.Core.List.{List, [], ◌∷◌, ◌++◌, flat_map, map}
 use Rattle.std.proofs.Math.ListN.{length, get_or}
-use Rattle.std.proofs.lemmas.List.{length-replicate, get_or-replicate, length-map}
+use Rattle.std.proofs.lemmas.List.{length-replicate, get_or-replicate, length-map, map-append}
 use Rattle.std.proofs.Math.Seq.{sets, length-sets}
 use Rattle.std.proofs.Math.Dec.{ltb}
 use borrow.Author.Tests.{lt-ltb, le-ltb, eqb-true, eqb-false, eq-eqb, not-true, not-false}
 use Rattle.lists.specs.Bool.{◌and◌, ◌or◌, iff, true≢false, same_test, every, every_at, and_left, and_right, and_both, and_no_left, or_cases, or_left, or_right, or_no_left, or_no_right}
 use Rattle.lists.specs.Bounded.{all, all_of, all_fails, all_ext, some, some_at, some_not, some_which, lt_or_le, eq_or_ne}
 use Rattle.lists.specs.Range.{range, length_range, map_at, part_all, flat_map_none, flat_map_range}
-use Rattle.lists.specs.Stores.{sets_append, sets_all}
+use Rattle.lists.specs.Stores.{sets_append, sets_more, sets_all}
 use Rattle.numbers.specs.Ranges.{within, all_below, within_high, below_at}
 use Rattle.grid.specs.Cells.{before, part, own, ends_of, same_two}
 use Rattle.grid.specs.CellsFacts.{Shaped, shaped_length, Begins, begins_first, begins_next, begins_part, part_each, get_d_part, length_cells, cells_at, all_cells}
@@ -409,18 +408,23 @@ begins_below {ks} {at} {k} {e} w end l bound h = all_of _ _ (λ k lk. lt-ltb _ _
 
 -- ---- the keys, as they are written
 
--- the keys of a triangle, and of a quad, one after the other
-pub keys_three : (l xs : List ℕ) (at : ℕ) → length xs ≡ 3 → {x y z : ℕ}
-    → x ≡ pair_key (get_or xs 1 0) (get_or xs 2 0) → y ≡ pair_key (get_or xs 0 0) (get_or xs 2 0) → z ≡ pair_key (get_or xs 0 0) (get_or xs 1 0)
-    → set (set (set l at x) (at + 1) y) (at + 2) z ≡ sets l at (cell_keys (length xs) xs)
-unfolding cell_keys range
-keys_three l xs at n e f g = rw (n, e, f, g) (simp (add-one, add-two))
+-- those of the first e local edges of a cell
+abbrev pub keys_upto : ℕ → ℕ → List ℕ → List ℕ
+keys_upto e n xs = map (λ k. pair_key (get_or xs (ends_of n k).first 0) (get_or xs (ends_of n k).second 0)) (range e)
 
-pub keys_four : (l xs : List ℕ) (at : ℕ) → length xs ≡ 4 → {x y z u : ℕ}
-    → x ≡ pair_key (get_or xs 0 0) (get_or xs 1 0) → y ≡ pair_key (get_or xs 0 0) (get_or xs 2 0) → z ≡ pair_key (get_or xs 1 0) (get_or xs 3 0) → u ≡ pair_key (get_or xs 2 0) (get_or xs 3 0)
-    → set (set (set (set l at x) (at + 1) y) (at + 2) z) (at + 3) u ≡ sets l at (cell_keys (length xs) xs)
-unfolding cell_keys range
-keys_four l xs at n e f g h = let three : at + 3 ≡ suc (suc (suc at)) = omega arith in rw (n, e, f, g, h, three) (simp (add-one, add-two))
+pub keys_whole : (n : ℕ) (xs : List ℕ) → keys_upto n n xs ≡ cell_keys n xs
+unfolding cell_keys
+keys_whole n xs = refl
+
+pub keys_turn : (l xs : List ℕ) (at n e : ℕ) {x : ℕ} → x ≡ pair_key (get_or xs (ends_of n e).first 0) (get_or xs (ends_of n e).second 0)
+    → set (sets l at (keys_upto e n xs)) (at + e) x ≡ sets l at (keys_upto (e + 1) n xs)
+unfolding range
+keys_turn l xs at n e {x} h =
+    let f : ℕ → ℕ = λ k. pair_key (get_or xs (ends_of n k).first 0) (get_or xs (ends_of n k).second 0) in
+    let long : length (keys_upto e n xs) ≡ e = length-map (range e) f ∙ length_range e in
+    ap (λ (k : ℕ). set (sets l at (keys_upto e n xs)) (at + k) x) (sym long)
+    ∙ sets_more l at (keys_upto e n xs) x
+    ∙ ap (sets l at) (ap (λ (y : ℕ). keys_upto e n xs ++ (y ∷ [])) h ∙ sym (map-append f (range e) (e ∷ [])) ∙ ap (λ (k : ℕ). map f (range k)) (sym (add-one e)))
 
 -- all of them: what is held before cell i
 pub record Keyed (ks vs l l' : List ℕ) (at i : ℕ) : Type 0 where

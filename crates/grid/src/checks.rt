@@ -8,7 +8,7 @@ ghost use Rattle.refusals.specs.Numbers.{told};
 ghost use Rattle.grid.specs.Cells.{before, part, own, distinct};
 ghost use Rattle.grid.specs.CellsFacts.{Shaped};
 ghost use Rattle.grid.specs.Lent.{mesh_lent};
-ghost use Rattle.grid.specs.Mesh.{most_cells, most_vertices, most_edges, kinds_right, edge_rule, edges_right, mesh_checks};
+ghost use Rattle.grid.specs.Mesh.{most_cells, most_vertices, most_edges, kinds_right, edges_right, mesh_checks};
 
 use crate::edge_rule::keeps_edge_rule;
 use crate::shape::{count_places, end_of, is_distinct, kinds_known};

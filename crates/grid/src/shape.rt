@@ -174,32 +174,6 @@ fn pair_key(cell: &[u32], p: usize, q: usize) -> u32
     }
 }
 
-// Writes the keys of the two vertices that each edge of a cell joins, from a place on. Edges of a triangle join (1,2), (0,2), (0,1), of a quad (0,1), (0,2),
-// (1,3), (2,3).
-pub(crate) fn write_cell_keys(cell: &[u32], keys: &mut [u32], at: usize)
-    requires in_bounds { (3 ≤ length cell.now) × (length cell.now ≤ 4) }
-    requires most_vertices_value { (all_below cell.now most_vertices ≡ true) × (at + length cell.now ≤ length keys.old) }
-    ensures { keys.new ≡ sets keys.old at (cell_keys (length cell.now) cell.now) }
-{
-    if cell.len() == 3 {
-        keys[at] = pair_key(cell, 1, 2);
-        keys[at + 1] = pair_key(cell, 0, 2);
-        keys[at + 2] = pair_key(cell, 0, 1);
-    } else {
-        keys[at] = pair_key(cell, 0, 1);
-        keys[at + 1] = pair_key(cell, 0, 2);
-        keys[at + 2] = pair_key(cell, 1, 3);
-        keys[at + 3] = pair_key(cell, 2, 3);
-    }
-}
-
-// Whether a local edge of the vertices p and q joins a and b.
-fn joins(p: u32, q: u32, a: u32, b: u32) -> bool
-    ensures { result ≡ same_two p q a b }
-{
-    ((p == a) & (q == b)) | ((p == b) & (q == a))
-}
-
 // The two local vertices that each local edge joins.
 const TRIANGLE_EDGES: [(u32, u32); 3] = [(1, 2), (0, 2), (0, 1)];
 
@@ -212,7 +186,26 @@ fn edges_of(n: u32) -> &'static [(u32, u32)]
     if n == 3 { &TRIANGLE_EDGES } else { &QUAD_EDGES }
 }
 
-// The local edge of a cell of kind n, 3 or 4, that joins local vertices a and b; n where none does.
+// Writes the keys of the two vertices that each edge of a cell joins, from a place on.
+pub(crate) fn write_cell_keys(cell: &[u32], keys: &mut [u32], at: usize)
+    requires in_bounds { (3 ≤ length cell.now) × (length cell.now ≤ 4) }
+    requires most_vertices_value { (all_below cell.now most_vertices ≡ true) × (at + length cell.now ≤ length keys.old) }
+    ensures { keys.new ≡ sets keys.old at (cell_keys (length cell.now) cell.now) }
+{
+    for (e, &(p, q)) in edges_of(cell.len() as u32).iter().enumerate() {
+        keys[at + e] = pair_key(cell, wide(p), wide(q));
+    }
+}
+
+// Whether a local edge of the vertices p and q joins a and b.
+fn joins(p: u32, q: u32, a: u32, b: u32) -> bool
+    ensures { result ≡ same_two p q a b }
+{
+    ((p == a) & (q == b)) | ((p == b) & (q == a))
+}
+
+// The local edge of a cell of kind n, 3 or 4, that joins local vertices a and b; n where none does. No Option, since a pattern's number is reckoned from it in
+// either case: the row of the table that stands at the number says whether it is the pattern.
 pub fn edge_joining(n: u32, a: u32, b: u32) -> u32
     requires { (3 ≤ n) × (n ≤ 4) }
     ensures { (result ≡ edge_joining n a b) × (result ≤ 4) }
@@ -225,7 +218,7 @@ pub fn edge_joining(n: u32, a: u32, b: u32) -> u32
     n
 }
 
-// The second local vertex of local edge e of a cell of kind n; 0 where there is no such edge.
+// The second local vertex of local edge e of a cell of kind n; 0 where there is no such edge, and no Option, for the same reason.
 pub fn second_of(n: u32, e: u32) -> u32
     ensures { result ≡ (ends_of n e).second }
 {

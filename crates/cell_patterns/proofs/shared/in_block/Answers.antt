@@ -1,4 +1,5 @@
 -- `cell_patterns::shared::in_block` meets its contract: each arm is a case of the formula, and its products are small. Assumes nothing.
+use mathlib.Core.Path.{sym}
 use native.Mathlib.Omega.{arith}
 use native.Mathlib.Nat.{le_of_lt}
 use Rattle.cell_patterns.specs.FormulaFacts.{sixteen, small_at, in_none, in_one, in_turned, in_straight, in_more}
@@ -15,7 +16,7 @@ overflow_add-result c =
     omega (arith, sixteen _ _ c.requires.le_n.3 (le_of_lt s.0), s.1)
 
 pub returns-in-empty : goal.returns-in-empty
-returns-in-empty c = (in_none c.args.n c.args.k c.args.shared.now (omega arith), omega arith)
+returns-in-empty c = sym (in_none c.args.n c.args.k c.args.shared.now (omega arith))
 
 pub returns-in-len1 : goal.returns-in-len1
 returns-in-len1 c =
