@@ -60,8 +60,8 @@ fn write_owners(owners: &mut [u32], at: usize, dimension: u32, x: u32, m: u32)
     }
 }
 
-// Where the walk stands: the first number of each entity met so far, at its slot (0: not met yet, else 1 more than the number, since a number of Option takes eight
-// bytes for four, and the memory is fixed); the two lists; the next place in the DOF list, and the next free number.
+// Where the walk stands: the first number of each entity met so far, at its slot (0: not met yet, else 1 more than the number. An Option<u32> would take eight bytes
+// for four of the fixed memory, and an Option<NonZeroU32> holds 1 more than the number too); the two lists; the next place in the DOF list, and the next free number.
 #[derive(Drop)]
 struct DofWalk<'a> {
     met: &'a mut [u32; MOST_ENTITIES],

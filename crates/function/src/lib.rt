@@ -41,7 +41,7 @@ fn is_dim(n: usize) -> bool
     (1..=MOST_DIM).contains(&n)
 }
 
-// An element for each kind of cell.
+// An element for each kind of cell. (A kind is a byte, as in the list that C lends.)
 #[repr(C)]
 #[derive(Clone, Copy)]
 pub struct Elements {

@@ -257,7 +257,8 @@ pub fn write_rows(kinds: &[u8], list: &[u32], none: u32, rows: &mut [u32])
     }
 }
 
-// The rows of the cells, and the number that stands in the fourth place of a triangle's.
+// The rows of the cells, and the number that stands in the fourth place of a triangle's. What else a function needs of rows it asks for itself: as a fact of this
+// type it would be asked of every caller of these methods.
 #[derive(Clone, Copy)]
 pub struct Rows<'a> {
     pub rows: &'a [u32],
