@@ -1,6 +1,6 @@
 -- Laws on local matrices put into the matrix and into entry lists: which entries count, and how long the lists are. Assumes nothing.
-use Rattle.std.specs.Prelude.{ℕ, take, drop, replicate, ◌+◌, ◌*◌, ◌≤◌, ◌<◌, ◌≡◌, refl, length, get_or, Float}
-use Rattle.std.proofs.Common.{arith, sym, ap, ap₂, ◌∙◌, length-set}
+use Rattle.std.specs.Prelude.{ℕ, take, drop, replicate, ◌+◌, ◌*◌, ◌≤◌, ◌<◌, ◌≡◌, refl, length, get_or, set, Float}
+use Rattle.std.proofs.Common.{arith, zero-add, sym, ap, ap₂, ◌∙◌, length-set}
 use mathlib.Core.List.{List, ◌++◌, flat_map, map}
 use borrow.Rule.Slice.PartMut.{put_mid}
 use Rattle.std.specs.Float.{nan}
@@ -9,10 +9,11 @@ use Rattle.std.proofs.Math.Seq.{take-length}
 use Rattle.std.proofs.lemmas.Slice.{put_mid-paste}
 use Rattle.std.proofs.lemmas.Simd.{splat_is_map}
 use Rattle.std.proofs.lemmas.List.Edits.{sets, sets-eq, get_or-between}
-use Rattle.lists.specs.Writes.{Blocks, blocks_start, blocks_room, blocks_turn, blocks_done}
+use Rattle.lists.specs.Stores.{sets_all}
+use Rattle.lists.specs.Writes.{Stores, stores_turn, stores_done, Blocks, blocks_start, blocks_room, blocks_turn, blocks_done}
 use Rattle.numbers.specs.Floats.{◌!◌}
 use Rattle.std.proofs.lemmas.List.{length-map}
-use Rattle.lists.specs.Range.{range, length_range, flat_map_below, flat_map_places, map_places, map_below, length_blocks}
+use Rattle.lists.specs.Range.{range, length_range, flat_map_below, flat_map_places, map_below, length_blocks}
 use Rattle.lists.specs.Fold.{upto, upto_keeps, upto_ext, Folded, folded_turn}
 use Rattle.lists.specs.Places.{in_row}
 use Rattle.scatter.specs.Adding.{add_at, add_local, local_rows, local_columns, local_values}
@@ -115,12 +116,14 @@ put_block : {A : Type 0} (a k : ℕ) (xs ys : List A) → length ys ≡ k → a 
 put_block a k xs ys e r =
     put_mid-paste a k xs ys ys (length ys) refl e refl ∙ ap (λ l. take a xs ++ l ++ drop (a + length ys) xs) (take-length ys) ∙ sym (sets-eq ys xs a (omega arith))
 
--- column j of the entries
-entries_block : (entries : List Float) (m j : ℕ) → length (between (m * j) (m * j + m) entries) ≡ m → between (m * j) (m * j + m) entries ≡ map (λ i. entry_at entries m i j) (range m)
-entries_block entries m j n =
-    sym (map_places (between (m * j) (m * j + m) entries) nan)
-    ∙ ap (λ (k : ℕ). map (λ i. between (m * j) (m * j + m) entries ! i) (range k)) n
-    ∙ map_below _ _ m (λ i h. get_or-between entries (m * j) (m * j + m) i nan (omega arith) ∙ ap (λ (k : ℕ). entries ! k) (omega arith))
+-- a turn of the loop that writes a column of the values, and the whole loop
+pub stored_turn : (entries : List Float) (j : ℕ) {m i : ℕ} {before after : List Float} → Stores (λ i. entry_at entries m i j) m before after 0 i → i < m → {v : Float}
+    → v ≡ entries ! (i + m * j) → Stores (λ i. entry_at entries m i j) m before (set after i v) 0 (i + 1)
+stored_turn entries j {m} {i} f h e = rw e (rw (zero-add i) at (stores_turn f h))
+
+pub stored_done : (entries : List Float) (j : ℕ) {i : ℕ} {before after : List Float} → Stores (λ i. entry_at entries (length before) i j) (length before) before after 0 i → length before ≤ i
+    → after ≡ map (λ i. entry_at entries (length before) i j) (range (length before))
+stored_done entries j {before = before} f h = stores_done f h ∙ sets_all before _ (length-map (range (length before)) _ ∙ length_range (length before))
 
 -- the columns below j are written
 pub record Writing (at : ℕ) (test_dofs trial_dofs : List ℕ) (entries : List Float) (rs rs' cs cs' : List ℕ) (vs vs' : List Float) (j : ℕ) : Type 0 where
@@ -140,21 +143,21 @@ module _ {at : ℕ} {test_dofs trial_dofs : List ℕ} {entries : List Float} {rs
   writing_places = (blocks_room w.for_rows h room.for_rows, blocks_room w.for_columns h room.for_columns, blocks_room w.for_values h room.for_values)
 
   pub writing_turn : {c : ℕ} {row column : List ℕ} {values : List Float} → row ≡ test_dofs → c ≡ get_or trial_dofs j 0 → {n : ℕ} → column ≡ replicate n c → n ≡ length test_dofs
-      → length values ≡ length test_dofs → values ≡ between (length test_dofs * j) (length test_dofs * j + length test_dofs) entries → {k : ℕ} → k ≡ length test_dofs
+      → {o : ℕ} → o ≡ length test_dofs → values ≡ map (λ i. entry_at entries o i j) (range o) → {k : ℕ} → k ≡ length test_dofs
       → Writing at test_dofs trial_dofs entries rs (put_mid (at + length test_dofs * j) k rs' row) cs (put_mid (at + length test_dofs * j) k cs' column)
       vs (put_mid (at + length test_dofs * j) k vs' values) (j + 1)
-  writing_turn {c} {row} {column} {values} er ec es en n ev {k} ek =
+  writing_turn {c} {row} {column} {values} er ec es en {o} eo ev {k} ek =
       let m : ℕ = length test_dofs in
       let p = writing_places in
       let col : column ≡ map (λ row. get_or trial_dofs j 0) test_dofs = es ∙ ap (λ (i : ℕ). replicate i c) en ∙ splat_is_map test_dofs m c refl ∙ ap (λ (v : ℕ). map (λ row. v) test_dofs) ec in
-      let val : values ≡ map (λ i. entry_at entries m i j) (range m) = ev ∙ entries_block entries m j (sym (ap length ev) ∙ n) in
+      let val : values ≡ map (λ i. entry_at entries m i j) (range m) = ev ∙ ap (λ (n : ℕ). map (λ i. entry_at entries n i j) (range n)) eo in
       record {
         for_rows = blocks_turn w.for_rows (λ _. refl) h
             (put_block (at + m * j) k rs' row (ap length er ∙ sym ek) (omega arith) ∙ ap (sets rs' (at + m * j)) er);
         for_columns = blocks_turn w.for_columns (λ _. length-map test_dofs _) h
             (put_block (at + m * j) k cs' column (ap length col ∙ length-map test_dofs _ ∙ sym ek) (omega arith) ∙ ap (sets cs' (at + m * j)) col);
         for_values = blocks_turn w.for_values (λ _. length-map (range m) _ ∙ length_range m) h
-            (put_block (at + m * j) k vs' values (n ∙ sym ek) (omega arith) ∙ ap (sets vs' (at + m * j)) val);
+            (put_block (at + m * j) k vs' values (ap length val ∙ length-map (range m) _ ∙ length_range m ∙ sym ek) (omega arith) ∙ ap (sets vs' (at + m * j)) val);
       }
 
 pub writing_done : {at : ℕ} {test_dofs trial_dofs : List ℕ} {entries : List Float} {rs rs' cs cs' : List ℕ} {vs vs' : List Float} {j : ℕ}

@@ -1,7 +1,9 @@
 // A local matrix put into the dense matrix, and into entry lists. Its entry (i, j) stands at i + m·j, m test DOFs; the order is trial basis outer.
 #![tactic(auto)]
 
-ghost use Rattle.std.specs.Prelude.{◌≡◌, ℕ, ◌+◌, ◌*◌, ◌<◌, length};
+ghost use Rattle.function.specs.Elements.{most_dim};
+ghost use Rattle.std.specs.Prelude.{◌≡◌, ℕ, ◌+◌, ◌*◌, ◌≤◌, ◌<◌, length, map};
+ghost use Rattle.lists.specs.Range.{range};
 ghost use Rattle.std.proofs.lemmas.List.Edits.{sets};
 ghost use Rattle.numbers.specs.Floats.{◌!◌};
 ghost use Rattle.scatter.specs.Adding.{add_local, local_rows, local_columns, local_values};
@@ -58,6 +60,17 @@ impl LocalMatrix<'_> {
     }
 }
 
+// The entries of trial basis function j, one for each place of the list. (By index and not as a slice: here stands the order that the lists promise, i + m·j.)
+fn write_column(values: &mut [f64], entries: &[f64; 100], j: usize)
+    requires { (length values.old ≤ most_dim) × (j < most_dim) }
+    ensures { values.new ≡ map (λ (i : ℕ). entry_at entries.now (length values.old) i j) (range (length values.old)) }
+{
+    let m = values.len();
+    for (i, value) in values.iter_mut().enumerate() {
+        *value = entries[i + m * j];
+    }
+}
+
 impl EntryLists<'_> {
     // The row, the column and the value of each entry of a local matrix, written from place at on.
     pub fn write(&mut self, at: usize, local: LocalMatrix)
@@ -79,11 +92,10 @@ impl EntryLists<'_> {
         } = local;
         let m = test_dofs.len();
         for (j, &column) in trial_dofs.iter().enumerate() {
-            let first = m * j;
-            let place = at + first;
+            let place = at + m * j;
             rows[place..place + m].copy_from_slice(test_dofs);
             columns[place..place + m].fill(column);
-            values[place..place + m].copy_from_slice(&entries[first..first + m]);
+            write_column(&mut values[place..place + m], entries, j);
         }
     }
 }

@@ -12,7 +12,7 @@ pub loop-j-preserved : goal.loop-j-preserved
 loop-j-preserved c =
     let p = writing_places c.loop-j.invariant c.loop-j-test.true c.requires.fits in
     writing_turn c.loop-j.invariant c.loop-j-test.true c.requires.fits c.copy_from_slice.ensures.after refl (c.fill.ensures.after (λ y e. e))
-    (length-between c.loop-j.columns _ _ p.1 ∙ omega arith) (c.copy_from_slice-in-loop-j.ensures.len ∙ length-between c.loop-j.values _ _ p.2 ∙ omega arith) c.copy_from_slice-in-loop-j.ensures.after (omega arith)
+    (length-between c.loop-j.columns _ _ p.1 ∙ omega arith) (length-between c.loop-j.values _ _ p.2 ∙ omega arith) c.write_column.ensures (omega arith)
 
 pub returns-clause-rows : goal.returns-clause-rows
 returns-clause-rows c = (writing_done c.loop-j.invariant c.loop-j-test.false).0
