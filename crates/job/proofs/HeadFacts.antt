@@ -1,9 +1,9 @@
 -- What the first 7 bytes of a job decide, whatever follows: a program need not store more of it. Assumes nothing.
-use Rattle.std.specs.Prelude.{ℕ, ◌+◌, ◌*◌, ◌≤◌, ◌<◌, ◌≡◌, refl, Bool, true, false, not, cond, ◌&&◌, List, length, take, get_or, leb, eqb}
+use Rattle.std.specs.Prelude.{ℕ, ◌+◌, ◌*◌, ◌≤◌, ◌<◌, ◌≡◌, refl, Bool, true, false, not, cond, ◌&&◌, List, [], ◌∷◌, length, take, get_or, leb, eqb}
 use Rattle.std.proofs.Common.{arith, sym, ap, ◌∙◌, ⊎_elim, length-take, length-take-le, get_or-take, take-take, leb-true, leb-false, eqb-true, eq-eqb, ne_eqb, le-leb}
 use Rattle.std.proofs.lemmas.Bool.{eqb-false, lt-leb}
 use Rattle.lists.specs.Bool.{◌and◌, ◌or◌, every, every_at, every_fails, every_of, ◌also◌, end, true≢false, cases, or_left, or_none}
-use Rattle.lists.specs.Refusals.{refusal, unless, answers, refused}
+use Rattle.lists.specs.Refusals.{check, refusal, unless, answers, refused}
 use Rattle.job.specs.Job.{rest_length, version, cell_count, most_worklist_cells, job_right, job_small, job_refusal}
 use Rattle.job.specs.Head.{HeadRead, Cells, Refused, head_right, head_answer, read_head, head_number, head_cells, Says, size_refusal, enough_bytes}
 
@@ -115,16 +115,33 @@ head_wrong s e h =
     let wrong = answer_wrong (head_right s) (cell_count s) (ap head_number (sym (head_alone s)) ∙ e) h in
     (wrong.1, λ limited. wrong.1 ∙ answers (refused (wrong_fails s wrong.0)))
 
+-- the limit of `worklist`
+pub limit : (b : Bool) → b or not true ≡ b
+limit true = or_left _ _ refl
+limit false = or_none _ _ refl refl
+
+-- the same of all bytes: the first 7 turn the job down
+pub job_wrong : (s : List ℕ) (limited : Bool) {n : ℕ} → Refused n ≡ read_head s → n ≡ job_refusal s limited
+unfolding read_head job_refusal
+job_wrong s limited e =
+    let said = refused_said s (sym e) in
+    let wrong = answer_wrong (head_right s) (cell_count s) said.0 said.1 in
+    wrong.1 ∙ answers (refused (wrong_fails s wrong.0))
+
+-- they say C, and the number of bytes decides
+pub job_size : (s : List ℕ) (limited : Bool) {C : ℕ} → Cells C ≡ read_head s
+    → refusal (check 12 (eqb (length s) (19 + 12 * C)) ∷ check 13 (leb C most_worklist_cells or not limited) ∷ []) ≡ job_refusal s limited
+unfolding read_head job_refusal job_small
+job_size s limited e =
+    let right = answer_says (head_right s) (cell_count s) (cells_said (sym e)) in
+    rw (right.1, right_by_length s right.0)
+
 -- they say C: the number of bytes decides 12 and 13
 pub head_size : (s : List ℕ) {C : ℕ} → Says (read_head (take 7 s)) C → size_refusal C (length s) ≡ job_refusal s true
 unfolding read_head job_refusal job_small
 head_size s h =
     let right = answer_says (head_right s) (cell_count s) (rw (head_alone s) at h) in
     rw (right.1, right_by_length s right.0, limit (leb (cell_count s) most_worklist_cells))
-  where
-    limit : (b : Bool) → b or not true ≡ b
-    limit true = or_left _ _ refl
-    limit false = or_none _ _ refl refl
 
 -- too many cells: never 0
 pub size_refused : (C n : ℕ) → most_worklist_cells < C → 0 < size_refusal C n

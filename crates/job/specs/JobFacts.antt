@@ -14,9 +14,9 @@ use Rattle.lists.specs.Bounded.{lt_or_le}
 use Rattle.lists.specs.Range.{range, length_range}
 use Rattle.lists.specs.Stores.{sets_all}
 use Rattle.lists.specs.Writes.{Stores, stores_turn, stores_done}
-use Rattle.lists.specs.Refusals.{refusal_at, answers, accepted, refused, ◌then◌}
+use Rattle.lists.specs.Refusals.{refusal_at}
 use Rattle.job.specs.declared.JobNumbers.{JobNumbers}
-use Rattle.job.specs.Job.{JobRead, Whole, Refused, two, twos, rest_length, cell_count, most_worklist_cells, job_numbers, job_vertices, job_edges, job_right, job_small, job_refusal, read_answer, read_job, read_number, read_values, front, vertex_list_of, edge_list_of}
+use Rattle.job.specs.Job.{JobRead, Whole, Refused, two, twos, rest_length, cell_count, most_worklist_cells, job_numbers, job_vertices, job_edges, job_right, job_small, job_refusal, read_answer, read_job, front, vertex_list_of, edge_list_of}
 
 -- ---- checks 12 and 13
 
@@ -36,27 +36,22 @@ both : (a b : Bool) → a && b ≡ true → (a ≡ true) × (b ≡ true)
 both true b e = (refl, e)
 both false b e = absurd (true≢false (sym e))
 
-module _ (s : List ℕ) (limited : Bool) where
-  -- the code's three ways out
-  pub refusal_12 : job_right s ≡ false → 12 ≡ job_refusal s limited
-  unfolding job_refusal
-  refusal_12 e = answers (refused e)
-
-  pub refusal_13 : job_right s ≡ true → {C : ℕ} → C ≡ cell_count s → limited && ltb most_worklist_cells C ≡ true → 13 ≡ job_refusal s limited
-  unfolding job_refusal job_small
-  refusal_13 e {C} c h =
+-- the test of the limit
+module _ (limited : Bool) (C : ℕ) where
+  pub limit_broken : limited && ltb most_worklist_cells C ≡ true → leb C most_worklist_cells or not limited ≡ false
+  limit_broken h =
       let l = both limited (ltb most_worklist_cells C) h in
-      let many : most_worklist_cells < cell_count s = rw c at (ltb-true most_worklist_cells C l.1) in
-      answers (e then refused (or_none _ _ (lt-leb _ _ many) (ap not l.0)))
+      let many : most_worklist_cells < C = ltb-true most_worklist_cells C l.1 in
+      or_none _ _ (lt-leb _ _ many) (ap not l.0)
 
-  pub refusal_0 : job_right s ≡ true → {C : ℕ} → C ≡ cell_count s → limited && ltb most_worklist_cells C ≡ false → 0 ≡ job_refusal s limited
-  unfolding job_refusal job_small
-  refusal_0 e {C} c h = answers (e then passes limited (rw c at h) then accepted)
+  pub limit_kept : limited && ltb most_worklist_cells C ≡ false → leb C most_worklist_cells or not limited ≡ true
+  limit_kept = passes limited
     where
-      passes : (b : Bool) → b && ltb most_worklist_cells (cell_count s) ≡ false → leb (cell_count s) most_worklist_cells or not b ≡ true
-      passes true k = let few : cell_count s ≤ most_worklist_cells = ltb-false most_worklist_cells (cell_count s) k in or_left _ _ (le-leb _ _ few)
+      passes : (b : Bool) → b && ltb most_worklist_cells C ≡ false → leb C most_worklist_cells or not b ≡ true
+      passes true k = let few : C ≤ most_worklist_cells = ltb-false most_worklist_cells C k in or_left _ _ (le-leb _ _ few)
       passes false k = or_right _ _ refl
 
+module _ (s : List ℕ) (limited : Bool) where
   -- no refusal: the job is long enough
   pub passed_long : job_refusal s limited ≡ 0 → Long s
   unfolding job_refusal
@@ -141,20 +136,6 @@ module _ (s : List ℕ) (limited : Bool) where
       let vertices = rw ec at ev in
       let edges = rw ec at (rw at at ee) in
       (rw (e, en), (rw e vertices, rw e edges))
-
--- ---- the number and the values of the answer
-
-pub read_number_lem : (s : List ℕ) (limited : Bool) → read_number (read_job s limited) ≡ job_refusal s limited
-unfolding read_job
-read_number_lem s limited = go (job_refusal s limited)
-  where
-    go : (v : ℕ) → read_number (read_answer v (job_numbers s)) ≡ v
-    go zero = refl
-    go (suc v) = refl
-
-pub read_values_lem : (s : List ℕ) (limited : Bool) → job_refusal s limited ≡ 0 → read_values (read_job s limited) ≡ job_numbers s
-unfolding read_job
-read_values_lem s limited e = rw e
 
 -- ---- how a caller takes the answer apart
 

@@ -1,8 +1,10 @@
 // The fields of the job format, big-endian, and what the first 7 bytes of a job decide.
-ghost use Rattle.std.specs.Prelude.{◌≡◌, ◌+◌, ◌<◌, length};
+ghost use Rattle.std.specs.Prelude.{◌≡◌, ◌+◌, ◌*◌, ◌<◌, length, eqb, leb, not, ◌∷◌, []};
 ghost use Rattle.job.specs.Answers.{head_told, told};
 ghost use Rattle.job.specs.Head.{head_right, read_head, size_refusal};
-ghost use Rattle.job.specs.Job.{two, four};
+ghost use Rattle.lists.specs.Bool.{◌or◌};
+ghost use Rattle.lists.specs.Refusals.{check, refusal};
+ghost use Rattle.job.specs.Job.{two, four, most_worklist_cells};
 
 use crate::{JobRefusal, MOST_WORKLIST_CELLS};
 
@@ -46,15 +48,22 @@ pub fn read_head(bytes: &[u8]) -> Result<u32, JobRefusal>
     }
 }
 
-// Checks 12 and 13 of a job of `worklist` whose first 7 bytes are right and say so many cells, and of which so many bytes came.
-pub fn check_size(cells: u32, bytes: usize) -> Result<(), JobRefusal>
-    ensures { told result ≡ size_refusal cells bytes }
+// Check 12 and, where asked, 13 of a job whose first 7 bytes are right and say so many cells, and of which so many bytes came.
+pub(crate) fn check_cells(cells: u32, bytes: usize, limited: bool) -> Result<(), JobRefusal>
+    ensures { told result ≡ refusal (check 12 (eqb bytes (19 + 12 * cells)) ∷ check 13 (leb cells most_worklist_cells or not limited) ∷ []) }
 {
     if bytes != 19 + 12 * cells as usize {
         return Err(JobRefusal::Malformed);
     }
-    if MOST_WORKLIST_CELLS < cells {
+    if limited & (MOST_WORKLIST_CELLS < cells) {
         return Err(JobRefusal::TooLarge);
     }
     Ok(())
+}
+
+// Checks 12 and 13 of a job of `worklist` whose first 7 bytes are right and say so many cells, and of which so many bytes came.
+pub fn check_size(cells: u32, bytes: usize) -> Result<(), JobRefusal>
+    ensures { told result ≡ size_refusal cells bytes }
+{
+    check_cells(cells, bytes, true)
 }

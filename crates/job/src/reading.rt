@@ -1,33 +1,18 @@
 // Reads a job: checks 12 and 13, the numbers and the two lists.
 ghost use Rattle.std.specs.Prelude.{◌≡◌, ◌+◌, ◌*◌, ◌≤◌, ◌<◌, length};
 ghost use Rattle.job.specs.Answers.{job_told, told};
-ghost use Rattle.job.specs.Job.{twos, element_at, job_numbers, job_right, job_refusal, front, read_job, vertex_list_of, edge_list_of};
+ghost use Rattle.job.specs.Job.{twos, element_at, job_numbers, job_refusal, front, read_job, vertex_list_of, edge_list_of};
 
-use crate::head::{head_right, two_at};
-use crate::{JobNumbers, JobRefusal, MOST_WORKLIST_CELLS};
+use crate::head::{check_cells, two_at};
+use crate::{JobNumbers, JobRefusal, read_head};
 use function::Element;
-
-// Check 12.
-fn job_right(bytes: &[u8]) -> bool
-    ensures { result ≡ job_right bytes.now }
-{
-    if !head_right(bytes) {
-        return false;
-    }
-    bytes.len() == 19 + 12 * usize::from(two_at(bytes, 5))
-}
 
 // Check 12 and, where asked, 13.
 fn check_job(bytes: &[u8], limited: bool) -> Result<(), JobRefusal>
     ensures { told result ≡ job_refusal bytes.now limited }
 {
-    if !job_right(bytes) {
-        return Err(JobRefusal::Malformed);
-    }
-    if limited & (MOST_WORKLIST_CELLS < u32::from(two_at(bytes, 5))) {
-        return Err(JobRefusal::TooLarge);
-    }
-    Ok(())
+    let cells = read_head(bytes)?;
+    check_cells(cells, bytes.len(), limited)
 }
 
 // The element whose a, b and c are bytes k, k + 1 and k + 2.

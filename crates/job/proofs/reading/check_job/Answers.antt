@@ -1,17 +1,13 @@
--- Each way out is the ladder of the checks, read to the one that answers. Assumes nothing.
-use native.Mathlib.Omega.{arith}
-use mathlib.Core.Path.{sym, ◌∙◌}
-use Rattle.job.specs.JobFacts.{right_long, refusal_12, refusal_13, refusal_0}
+-- The first 7 bytes turn the job down, or the number of bytes and the limit decide. Assumes nothing.
+use mathlib.Core.Path.{◌∙◌}
+use Rattle.std.proofs.lemmas.Result.{err_from_is_err_and}
+use Rattle.job.proofs.HeadFacts.{job_wrong, job_size}
 use Rattle.job.proofs.reading.check_job.Goals as goal
 
-pub returns-then-not-job_right : goal.returns-then-not-job_right
-returns-then-not-job_right c = refusal_12 _ _ (sym c.job_right.ensures ∙ c.if-not-job_right.true)
-
-pub two_at-requires : goal.two_at-requires
-two_at-requires c = let long = right_long _ (sym c.job_right.ensures ∙ c.if-not-job_right.false) in omega arith
-
-pub returns-then-limited-from : goal.returns-then-limited-from
-returns-then-limited-from c = refusal_13 _ _ (sym c.job_right.ensures ∙ c.if-not-job_right.false) (c.from.ensures ∙ c.two_at.ensures) c.if-limited-from.true
+pub returns-in_err-cells : goal.returns-in_err-cells
+returns-in_err-cells c =
+    let p = err_from_is_err_and c.from_residual.result c.from_residual.ensures.1 in
+    rw (p.1, p.2) (job_wrong c.args.bytes.now c.args.limited c.in_err-cells.ensures)
 
 pub returns : goal.returns
-returns c = refusal_0 _ _ (sym c.job_right.ensures ∙ c.if-not-job_right.false) (c.from.ensures ∙ c.two_at.ensures) c.if-limited-from.false
+returns c = c.check_cells.ensures ∙ job_size c.args.bytes.now c.args.limited c.in_ok-cells.ensures
