@@ -56,6 +56,7 @@ fn count_right(points: usize, most: usize) -> bool
 }
 
 // Whether each jdet is above 0. All are read, whatever the first is.
+// By index: of each ten numbers one is read, and in chunks of ten that one would have an index too.
 fn jdets_above_0(s: &[f64], points: usize) -> bool
     requires { 10 * points ≤ length s.now }
     ensures { result ≡ jdets_above0 s.now points }
@@ -147,6 +148,7 @@ impl<'a> TouchingNumbers<'a> {
     }
 
     // Checks 9 to 11: the first that turns the pair down, if any.
+    // Written for both sorts of pair: each of the three steps is another, and a trait of the three with their clauses is longer than what both share.
     pub fn check(self, f: Integrand, test_dim: usize, trial_dim: usize) -> Result<(), Refusal>
         requires { (test_dim ≤ most_dim) × (trial_dim ≤ most_dim) }
         ensures { told result ≡ refusal (touching_checks f test_dim trial_dim (touching_of self.entry)) }

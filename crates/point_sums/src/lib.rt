@@ -31,7 +31,7 @@ pub struct Weight {
     pub v: f64,
 }
 
-// What each test basis function brings, number by number: the compiler then works out two at a time.
+// What each test basis function brings, number by number: as a list of `Part` kind 3 at dim 3 takes 1.09 times the instructions.
 #[derive(Clone, Copy)]
 pub struct Parts {
     x0: [f64; MOST_DIM],
@@ -59,8 +59,8 @@ impl Parts {
     }
 }
 
-// Put in its place at each call, as what calls it: a call at each point takes twice to three times as long.
 // Adds value·w·v to each entry. The value at test basis i and trial basis j is `value(i, t)`, where t is what trial basis j brings.
+// Inlined, as its callers are: a call at each point takes two to three times as long.
 #[inline(always)]
 fn add_values<T: Copy, B: Fn(usize) -> T, V: Fn(usize, T) -> f64>(
     entries: &mut [f64; 100],
@@ -111,9 +111,9 @@ fn bring_parts(parts: &mut Parts, x: KindValue, test: Point)
     }
 }
 
-// A term other than curl-curl: c·t·r with its factor.
+// A term other than curl-curl, with any c: c·t·r with its factor.
 #[inline(always)]
-fn add_outer(
+pub fn add_outer(
     entries: &mut [f64; 100],
     weight: Weight,
     term: Term,
@@ -139,7 +139,7 @@ fn add_outer(
 
 // A term with curls; c is its kernel value, and parts are the curls of the test basis functions.
 #[inline(always)]
-fn add_curls(
+pub fn add_curls(
     entries: &mut [f64; 100],
     weight: Weight,
     term: Term,
