@@ -69,7 +69,7 @@ impl Run {
         ensures { run_of result ≡ begin numbers }
     {
         Run {
-            numbers: numbers,
+            numbers,
             entries: false,
             position: 0,
         }
@@ -80,7 +80,7 @@ impl Run {
         ensures { run_of result ≡ begin_entries numbers }
     {
         Run {
-            numbers: numbers,
+            numbers,
             entries: true,
             position: numbers.distant,
         }
@@ -91,9 +91,9 @@ impl Run {
         ensures { result ≡ ranges_right (run_of self.now) }
     {
         let n = self.numbers;
-        ((1 <= n.cells) & (n.cells <= MOST_CELLS as u32))
-            & ((3 <= n.vertices) & (n.vertices <= MOST_VERTICES as u32))
-            & ((3 <= n.edges) & (n.edges <= MOST_EDGES as u32))
+        (1..=MOST_CELLS as u32).contains(&n.cells)
+            & (3..=MOST_VERTICES as u32).contains(&n.vertices)
+            & (3..=MOST_EDGES as u32).contains(&n.edges)
             & dims_right(n.triangles, n.quads, n.test, n.trial)
             & integrand_right(n.integrand)
     }
@@ -192,7 +192,7 @@ impl Run {
         let quads = self.quads_before(kinds, cell);
         let kind = kinds[wide(cell)];
         Cell {
-            kind: kind,
+            kind,
             start: dofs_on(cell - quads, quads, elements),
             dim: elements.dim(kind),
         }

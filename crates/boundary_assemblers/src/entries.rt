@@ -45,7 +45,8 @@ impl Run {
         wide(records) * (kind_dim(n, n.test, test_kind) * kind_dim(n, n.trial, trial_kind))
     }
 
-    // The entries of the first q touching records, block after block.
+    // The entries of the first q touching records, block after block. (Four lines for four blocks: a loop over them needs an array of kinds and counts, and an
+    // invariant of two sums, which is no plainer.)
     fn entries_to(&self, q: u32) -> usize
         requires { Dims self.now.numbers }
         ensures { result ≡ entries_to self.now.numbers q }
@@ -114,7 +115,8 @@ impl Run {
         lists.write(at, local_matrix(plan, pair, entries));
     }
 
-    // Enters the pair of record p. Checks 21, 20, 22, 22 by the kinds, 23, then 9 to 11.
+    // Enters the pair of record p. (It shares its steps with `add`. The two stay apart, since the kinds are checked here alone, between two of those steps, and a
+    // closure for that step and one for the writing are no plainer.) Checks 21, 20, 22, 22 by the kinds, 23, then 9 to 11.
     fn enter(
         &mut self,
         plan: Plan,

@@ -71,7 +71,7 @@ pub struct CRun {
 
 impl CRun {
     // The host's run at another position.
-    fn at(self, position: u32) -> CRun
+    fn moved_to(self, position: u32) -> CRun
         ensures { result ≡ moved self position }
     {
         CRun { position, ..self }
@@ -80,7 +80,7 @@ impl CRun {
 
 // A record of the work list.
 #[repr(C)]
-#[derive(Clone, Copy)]
+#[derive(Clone, Copy, Default)]
 pub struct CRecord {
     pub pattern: u32,
     pub test_cell: u32,
@@ -197,7 +197,8 @@ fn c_numbers(test: Elements, trial: Elements, f: CIntegrand, n: PlanNumbers) -> 
     }
 }
 
-// What stands in their place where planning refuses.
+// What stands in their place where planning refuses. (The elements and the integrand are the host's, so that no default of the whole serves, and the definition
+// says each zero.)
 fn no_numbers(test: Elements, trial: Elements, f: CIntegrand) -> CNumbers
     ensures { result ≡ no_numbers test trial f }
 {
@@ -266,23 +267,12 @@ impl From<WorkRecord> for CRecord {
     }
 }
 
-// What stands in a record's place where look refuses.
-fn no_record() -> CRecord
-    ensures { result ≡ no_record }
-{
-    CRecord {
-        pattern: 0,
-        test_cell: 0,
-        trial_cell: 0,
-    }
-}
-
 // What look answers, of the host's run.
 pub fn c_looked(c: CRun, looked: (Run, Result<WorkRecord, Refusal>)) -> CLooked
     ensures { result ≡ c_looked c (Inner.looked_of looked) }
 {
     let (run, answer) = looked;
-    let next = c.at(run.position);
+    let next = c.moved_to(run.position);
     match answer {
         Ok(e) => CLooked {
             refusal: 0,
@@ -292,7 +282,7 @@ pub fn c_looked(c: CRun, looked: (Run, Result<WorkRecord, Refusal>)) -> CLooked
         Err(refusal) => CLooked {
             refusal: u32::from(refusal),
             run: next,
-            record: no_record(),
+            record: CRecord::default(),
         },
     }
 }
@@ -308,7 +298,7 @@ pub fn c_added(c: CRun, added: (Run, Result<(), Refusal>)) -> CAdded
     };
     CAdded {
         refusal,
-        run: c.at(run.position),
+        run: c.moved_to(run.position),
     }
 }
 

@@ -168,12 +168,6 @@ module _ {m : Mesh} {cs : List ℕ} {count : ℕ} (s : Side m cs count) where
         }
 
 module _ {m : Mesh} {B : ℕ} {ts : List ℕ} {tn : ℕ} {rs : List ℕ} {rn : ℕ} {work : List ℕ} (r : Ready m B ts tn rs rn work) where
-  pub test_side : Side m ts tn
-  test_side = record { shaped = r.shaped; kinds_long = r.long; cells = r.cells; long = r.counts.test_colours; count_is = r.test; few = r.test_few_holds }
-
-  pub trial_side : Side m rs rn
-  trial_side = record { shaped = r.shaped; kinds_long = r.long; cells = r.cells; long = r.counts.trial_colours; count_is = r.trial; few = r.trial_few_holds }
-
   -- the rows
   module _ {rows : List ℕ} (are : rows ≡ rows_of m.vertices m.kinds m.cell_vertices (length m.kinds)) where
     same : rows ≡ rows_of m.vertices m.kinds m.cell_vertices m.cells

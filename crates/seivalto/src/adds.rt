@@ -1,4 +1,5 @@
-// The adds, and the entries call. A function that C calls takes each list by itself, as its header declares.
+// The adds, and the entries call. A function that C calls takes each list by itself, as its header declares, and puts them together here: a function for that
+// would be given the same lists by themselves, which is no shorter.
 ghost use Rattle.std.specs.Prelude.{◌≡◌};
 ghost use Rattle.lent_numbers.specs.Lent.{touching, distant};
 ghost use Rattle.runs.specs.Runs.{plan_of, entry_lists, add_touching, touching_matrix, add_distant, distant_matrix, add_entries, entries_written};

@@ -12,7 +12,7 @@ use job::{MOST_WORKLIST_CELLS, check_size, read_head};
 use std::io::{self, Read};
 use worklist_text::{Text, refused_text, worklist_text};
 
-// The most bytes that are kept: one more than the largest job has.
+// The most bytes that are kept, one more than the largest job has. They stand in an array, since nothing here allocates.
 const MOST_BYTES: usize = 20 + 12 * (MOST_WORKLIST_CELLS as usize);
 
 // How many bytes are read at a time where none is kept.
@@ -34,7 +34,7 @@ fn read_some<R: Read>(file: &mut Source<R>, piece: &mut [u8], n: usize) -> usize
     file.read_full(&mut piece[..most])
 }
 
-// Reads n bytes, as far as so many come, a piece at a time: none is kept.
+// Reads n bytes, as far as so many come, a piece at a time: none is kept. (The count grows by what came, and not by one: a `while`, for which no iterator stands.)
 fn skip<R: Read>(file: &mut Source<R>, n: usize) -> usize
     ensures { result ≤ n }
 {

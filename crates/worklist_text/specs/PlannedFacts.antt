@@ -108,15 +108,9 @@ module _ {C n : ℕ} (count : n ≡ C) (few : C ≤ most_worklist_cells) where
   pub front : take n (triangles most_worklist_cells) ≡ triangles C
   front = rw count (take_replicate C most_worklist_cells 3 few)
 
-  pub front_length : n ≡ length (take n (triangles most_worklist_cells))
-  front_length = count ∙ sym (ap length front ∙ length-replicate C 3)
-
 -- ---- lists whose lengths are made with dims cut to the most
 
 -- they fit
-pub few_places : (C d : ℕ) → C ≤ most_worklist_cells → d ≤ most_dim → C * d ≤ most_worklist_cells * most_dim
-few_places C d h k = mul-le-mul h k
-
 few_pairs : (C : ℕ) → C ≤ most_worklist_cells → C * C ≤ most_worklist_cells * most_worklist_cells
 few_pairs C h = mul-le-mul h h
 
