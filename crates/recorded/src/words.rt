@@ -1,5 +1,5 @@
 // The words of a file, read from the front: whole, or a few digits at a time.
-ghost use Rattle.std.specs.Prelude.{◌≤◌, ◌<◌};
+ghost use Rattle.std.specs.Prelude.{◌≤◌, IfOk};
 
 use std::io::{self, ErrorKind};
 use std::str::SplitAsciiWhitespace;
@@ -53,13 +53,10 @@ impl<'a> Words<'a> {
     }
 
     /// The next digit.
-    pub fn digit(&mut self) -> io::Result<u8> {
-        Ok((self.bits(4)? & 0xf) as u8)
-    }
-
-    /// The next number of two digits.
-    pub fn byte(&mut self) -> io::Result<u8> {
-        Ok((self.bits(8)? & 0xff) as u8)
+    pub fn digit(&mut self) -> io::Result<u8>
+        ensures { IfOk result (λ d. d ≤ 15) }
+    {
+        Ok((self.bits(4)? % 16) as u8)
     }
 
     /// The next number of four digits.
