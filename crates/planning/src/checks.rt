@@ -55,6 +55,7 @@ fn lengths_right(cells: u32, rows: usize, columns: usize, lists: &PlanLists) -> 
 }
 
 // Check 7, by way of the rows of the cells.
+#[inline(never)]
 fn cells_right(mesh: Mesh) -> bool
     requires { Fine (mesh_lent mesh) }
     ensures { result ≡ patterns_right (mesh_lent mesh.entry) }

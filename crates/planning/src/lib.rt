@@ -41,7 +41,8 @@ struct SideCounts {
     colours: u32,
 }
 
-// Writes the three lists of one side.
+// Writes the three lists of one side. Not inlined, nor what else has lists of its own here, so that those of one step are not on the stack with those of another.
+#[inline(never)]
 fn write_side(
     mesh: Mesh,
     elements: Elements,

@@ -82,6 +82,7 @@ fn counts_of(n: usize, ends: TouchingEnds) -> PairCounts
 
 // Writes the work list; hands back how many pairs there are of each sort. The rows of the cells, the key of each and the cells by kind and colour are alive here
 // alone.
+#[inline(never)]
 pub(crate) fn write_work(
     mesh: Mesh,
     batch: usize,
