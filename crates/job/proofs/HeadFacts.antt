@@ -1,10 +1,10 @@
 -- What the first 7 bytes of a job decide, whatever follows: a program need not store more of it. Assumes nothing.
-use Rattle.std.specs.Prelude.{ℕ, ◌+◌, ◌*◌, ◌≤◌, ◌<◌, ◌≡◌, refl, Bool, true, false, not, cond, ◌&&◌, List, [], ◌∷◌, length, take, get_or, leb, eqb}
+use Rattle.std.specs.Prelude.{ℕ, ◌+◌, ◌*◌, ◌≤◌, ◌<◌, ◌≡◌, refl, Bool, true, false, cond, ◌&&◌, Option, Some, List, [], ◌∷◌, length, take, get_or, leb, eqb}
 use Rattle.std.proofs.Common.{arith, sym, ap, ◌∙◌, ⊎_elim, length-take, length-take-le, get_or-take, take-take, leb-true, leb-false, eqb-true, eq-eqb, ne_eqb, le-leb}
 use Rattle.std.proofs.lemmas.Bool.{eqb-false, lt-leb}
-use Rattle.lists.specs.Bool.{◌and◌, ◌or◌, every, every_at, every_fails, every_of, ◌also◌, end, true≢false, cases, or_left, or_none}
+use Rattle.lists.specs.Bool.{◌and◌, every, every_at, every_fails, every_of, ◌also◌, end, true≢false, cases}
 use Rattle.lists.specs.Refusals.{check, refusal, unless, answers, refused}
-use Rattle.job.specs.Job.{rest_length, version, cell_count, most_worklist_cells, job_right, job_small, job_refusal}
+use Rattle.job.specs.Job.{rest_length, version, cell_count, most_worklist_cells, within, job_right, job_small, job_refusal}
 use Rattle.job.specs.Head.{HeadRead, Cells, Refused, head_right, head_answer, read_head, head_number, head_cells, Says, size_refusal, enough_bytes}
 
 -- ---- the code's tests
@@ -109,39 +109,34 @@ enough_seven h = go (eqb (head_number h) 0)
     go false = omega arith
 
 -- they are refused: so is the job, whatever follows
-pub head_wrong : (s : List ℕ) {n : ℕ} → head_number (read_head (take 7 s)) ≡ n → 0 < n → (n ≡ 12) × ((limited : Bool) → n ≡ job_refusal s limited)
+pub head_wrong : (s : List ℕ) {n : ℕ} → head_number (read_head (take 7 s)) ≡ n → 0 < n → (n ≡ 12) × ((limit : Option ℕ) → n ≡ job_refusal s limit)
 unfolding read_head job_refusal
 head_wrong s e h =
     let wrong = answer_wrong (head_right s) (cell_count s) (ap head_number (sym (head_alone s)) ∙ e) h in
-    (wrong.1, λ limited. wrong.1 ∙ answers (refused (wrong_fails s wrong.0)))
-
--- the limit of `worklist`
-pub limit : (b : Bool) → b or not true ≡ b
-limit true = or_left _ _ refl
-limit false = or_none _ _ refl refl
+    (wrong.1, λ limit. wrong.1 ∙ answers (refused (wrong_fails s wrong.0)))
 
 -- the same of all bytes: the first 7 turn the job down
-pub job_wrong : (s : List ℕ) (limited : Bool) {n : ℕ} → Refused n ≡ read_head s → n ≡ job_refusal s limited
+pub job_wrong : (s : List ℕ) (limit : Option ℕ) {n : ℕ} → Refused n ≡ read_head s → n ≡ job_refusal s limit
 unfolding read_head job_refusal
-job_wrong s limited e =
+job_wrong s limit e =
     let said = refused_said s (sym e) in
     let wrong = answer_wrong (head_right s) (cell_count s) said.0 said.1 in
     wrong.1 ∙ answers (refused (wrong_fails s wrong.0))
 
 -- they say C, and the number of bytes decides
-pub job_size : (s : List ℕ) (limited : Bool) {C : ℕ} → Cells C ≡ read_head s
-    → refusal (check 12 (eqb (length s) (19 + 12 * C)) ∷ check 13 (leb C most_worklist_cells or not limited) ∷ []) ≡ job_refusal s limited
+pub job_size : (s : List ℕ) (limit : Option ℕ) {C : ℕ} → Cells C ≡ read_head s
+    → refusal (check 12 (eqb (length s) (19 + 12 * C)) ∷ check 13 (within limit C) ∷ []) ≡ job_refusal s limit
 unfolding read_head job_refusal job_small
-job_size s limited e =
+job_size s limit e =
     let right = answer_says (head_right s) (cell_count s) (cells_said (sym e)) in
     rw (right.1, right_by_length s right.0)
 
 -- they say C: the number of bytes decides 12 and 13
-pub head_size : (s : List ℕ) {C : ℕ} → Says (read_head (take 7 s)) C → size_refusal C (length s) ≡ job_refusal s true
+pub head_size : (s : List ℕ) {C : ℕ} → Says (read_head (take 7 s)) C → size_refusal C (length s) ≡ job_refusal s (Some most_worklist_cells)
 unfolding read_head job_refusal job_small
 head_size s h =
     let right = answer_says (head_right s) (cell_count s) (rw (head_alone s) at h) in
-    rw (right.1, right_by_length s right.0, limit (leb (cell_count s) most_worklist_cells))
+    rw (right.1, right_by_length s right.0)
 
 -- too many cells: never 0
 pub size_refused : (C n : ℕ) → most_worklist_cells < C → 0 < size_refusal C n
@@ -153,19 +148,19 @@ size_refused C n large = rw (lt-leb C most_worklist_cells large) (go (eqb n (19 
     go false = omega arith
 
 -- they say C: one byte more than such a job has, and it is refused
-longer_fails : (s : List ℕ) (C : ℕ) → Says (read_head s) C → 19 + 12 * C < length s → (limited : Bool) → 12 ≡ job_refusal s limited
+longer_fails : (s : List ℕ) (C : ℕ) → Says (read_head s) C → 19 + 12 * C < length s → (limit : Option ℕ) → 12 ≡ job_refusal s limit
 unfolding read_head job_refusal
-longer_fails s C h long limited =
+longer_fails s C h long limit =
     let right = answer_says (head_right s) (cell_count s) h in
     let more = rw right.1 at long in
     answers (refused (sym (right_by_length s right.0) ∙ ne_eqb _ _ (λ (k : length s ≡ 19 + 12 * cell_count s). omega (arith, more))))
 
 -- so that it need not be read on: both what was read and the whole are refused
-pub head_longer : (s : List ℕ) {C : ℕ} → Says (read_head (take 7 s)) C → 20 + 12 * C ≤ length s → (limited : Bool)
-    → (12 ≡ job_refusal (take (20 + 12 * C) s) limited) × (12 ≡ job_refusal s limited)
-head_longer s {C} h long limited =
+pub head_longer : (s : List ℕ) {C : ℕ} → Says (read_head (take 7 s)) C → 20 + 12 * C ≤ length s → (limit : Option ℕ)
+    → (12 ≡ job_refusal (take (20 + 12 * C) s) limit) × (12 ≡ job_refusal s limit)
+head_longer s {C} h long limit =
     let front = take (20 + 12 * C) s in
     let same : read_head (take 7 s) ≡ read_head front = ap read_head (sym (take-take 7 (20 + 12 * C) s (omega arith))) ∙ head_alone front in (
-      longer_fails front C (rw same at h) (omega (arith, length-take-le (20 + 12 * C) s long)) limited,
-      longer_fails s C (rw (head_alone s) at h) (omega arith) limited,
+      longer_fails front C (rw same at h) (omega (arith, length-take-le (20 + 12 * C) s long)) limit,
+      longer_fails s C (rw (head_alone s) at h) (omega arith) limit,
     )

@@ -1,5 +1,5 @@
 -- The job of M4 as bytes, and what reading it answers and writes; beside the paper's examples. Assumes nothing.
-use Rattle.std.specs.Prelude.{ℕ, refl, true, false, List, [], ◌∷◌, ◌++◌, take, replicate}
+use Rattle.std.specs.Prelude.{ℕ, refl, None, Some, List, [], ◌∷◌, ◌++◌, take, replicate}
 use Rattle.lists.specs.Examples.{Example, example, Holds, opened_lists}
 use Rattle.grid.specs.Examples.{mesh_m}
 use Rattle.function.specs.Examples.{element}
@@ -20,7 +20,7 @@ m4_job =
 
 abbrev pub m4_read : Example
 m4_read =
-    example (read_job m4_job true)
+    example (read_job m4_job (Some 64))
     (Whole (record { cells = 3; vertices = 7; edges = 8; test = element 1 0 0; trial = element 1 0 0; batch = 2 }))
 
 pub m4_read_holds : Holds m4_read
@@ -31,7 +31,7 @@ m4_read_holds = refl
 abbrev pub m4_lists : Example
 m4_lists =
     example
-    (vertex_list_of m4_job true (replicate 11 99) ∷ edge_list_of m4_job true (replicate 5 99) ∷ vertex_list_of (take 54 m4_job) false (replicate 9 99) ∷ [])
+    (vertex_list_of m4_job (Some 64) (replicate 11 99) ∷ edge_list_of m4_job (Some 64) (replicate 5 99) ∷ vertex_list_of (take 54 m4_job) None (replicate 9 99) ∷ [])
     ((mesh_m.cell_vertices ++ 99 ∷ 99 ∷ []) ∷ take 5 mesh_m.cell_edges ∷ replicate 9 99 ∷ [])
 
 pub m4_lists_hold : Holds m4_lists
@@ -43,7 +43,7 @@ abbrev large : List ℕ
 large = 0 ∷ 0 ∷ 3 ∷ 27 ∷ 1 ∷ 0 ∷ 65 ∷ replicate 792 0
 
 abbrev pub read_numbers : Example
-read_numbers = example (read_number (read_job (take 54 m4_job) false) ∷ read_number (read_job large true) ∷ read_number (read_job large false) ∷ []) (12 ∷ 13 ∷ 0 ∷ [])
+read_numbers = example (read_number (read_job (take 54 m4_job) None) ∷ read_number (read_job large (Some 64)) ∷ read_number (read_job large None) ∷ []) (12 ∷ 13 ∷ 0 ∷ [])
 
 pub read_numbers_hold : Holds read_numbers
 unfolding opened_job

@@ -1,7 +1,7 @@
 -- The job format: all integers big-endian. 4-byte length of the rest; version byte 1; C, V, E (2 bytes each); test a, b, c; trial a, b, c (1 byte
 -- each); batch (2 bytes); 3C vertices, then 3C edges (2 bytes each). Checks 12 and 13, and what reading a job answers and writes. Assumes nothing.
-use Rattle.std.specs.Prelude.{ℕ, zero, suc, ◌+◌, ◌*◌, Bool, not, List, [], ◌∷◌, ◌++◌, map, length, get_or, take, drop, leb, eqb}
-use Rattle.lists.specs.Bool.{◌or◌, every}
+use Rattle.std.specs.Prelude.{ℕ, zero, suc, ◌+◌, ◌*◌, Bool, true, Option, None, Some, List, [], ◌∷◌, ◌++◌, map, length, get_or, take, drop, leb, eqb}
+use Rattle.lists.specs.Bool.{every}
 use Rattle.lists.specs.Range.{range}
 use Rattle.lists.specs.Refusals.{Check, check, refusal}
 use Rattle.function.specs.declared.Element.{Element}
@@ -64,16 +64,20 @@ job_right s =
 abbrev pub most_worklist_cells : ℕ
 most_worklist_cells = 64
 
--- 13: at most so many cells, where the job is limited to them
-unfoldable pub job_small : List ℕ → Bool → Bool
-job_small s limited = leb (cell_count s) most_worklist_cells or not limited
+-- 13: at most so many cells, where there is a limit
+abbrev pub within : Option ℕ → ℕ → Bool
+within None C = true
+within (Some most) C = leb C most
 
-abbrev pub job_checks : List ℕ → Bool → List Check
-job_checks s limited = check 12 (job_right s) ∷ check 13 (job_small s limited) ∷ []
+unfoldable pub job_small : List ℕ → Option ℕ → Bool
+job_small s limit = within limit (cell_count s)
+
+abbrev pub job_checks : List ℕ → Option ℕ → List Check
+job_checks s limit = check 12 (job_right s) ∷ check 13 (job_small s limit) ∷ []
 
 -- the first that turns the job down, or 0
-unfoldable pub job_refusal : List ℕ → Bool → ℕ
-job_refusal s limited = refusal (job_checks s limited)
+unfoldable pub job_refusal : List ℕ → Option ℕ → ℕ
+job_refusal s limit = refusal (job_checks s limit)
 
 -- what reading a job answers: its numbers, or the paper's number of a refusal
 pub data JobRead : Type 0 where
@@ -86,8 +90,8 @@ read_answer zero n = Whole n
 read_answer (suc k) n = Refused (suc k)
 
 -- what reading a job answers
-unfoldable pub read_job : List ℕ → Bool → JobRead
-read_job s limited = read_answer (job_refusal s limited) (job_numbers s)
+unfoldable pub read_job : List ℕ → Option ℕ → JobRead
+read_job s limit = read_answer (job_refusal s limit) (job_numbers s)
 
 -- for each case: the paper's number, 0 where the job is read, and the values, all 0 where it is refused
 abbrev pub read_number : JobRead → ℕ
@@ -108,8 +112,8 @@ unless_refused zero ns list = front ns list
 unless_refused (suc k) ns list = list
 
 -- the two lists after the call
-unfoldable pub vertex_list_of : List ℕ → Bool → List ℕ → List ℕ
-vertex_list_of s limited list = unless_refused (job_refusal s limited) (job_vertices s) list
+unfoldable pub vertex_list_of : List ℕ → Option ℕ → List ℕ → List ℕ
+vertex_list_of s limit list = unless_refused (job_refusal s limit) (job_vertices s) list
 
-unfoldable pub edge_list_of : List ℕ → Bool → List ℕ → List ℕ
-edge_list_of s limited list = unless_refused (job_refusal s limited) (job_edges s) list
+unfoldable pub edge_list_of : List ℕ → Option ℕ → List ℕ → List ℕ
+edge_list_of s limit list = unless_refused (job_refusal s limit) (job_edges s) list

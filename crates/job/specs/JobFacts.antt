@@ -1,22 +1,23 @@
 -- What the code of the job format rests on. Assumes nothing.
 use Prim.Native.Nat.{ℕ, zero, suc, ◌+◌, ◌*◌, ◌≤◌, ◌<◌}
 use Rattle.std.proofs.Common.{zero-add, arith, sym, ap, ◌∙◌, ⊎_elim, append-nil, take_at}
-use Rattle.std.specs.Prelude.{◌≡◌, Bool, ◌&&◌, List, [], ◌∷◌, ◌++◌, length, set, take, drop, min}
+use Rattle.std.specs.Prelude.{◌≡◌, Option, None, Some, List, [], ◌∷◌, ◌++◌, length, set, take, drop, min}
+use Rattle.std.specs.Option.{unwrap_or}
 use Rattle.std.proofs.Math.Path.{refl}
-use Rattle.std.proofs.Math.Bool.{true, false, not}
+use Rattle.std.proofs.Math.Bool.{true}
 use Rattle.std.proofs.lemmas.List.{map-append, length-map, take-append-le}
 use Rattle.std.proofs.Math.ListN.{drop_of_length-le}
 use Rattle.std.proofs.Math.Seq.{length-take-le, take_all}
-use Rattle.std.proofs.Math.Dec.{leb, ltb}
-use borrow.Author.Tests.{leb-true, ltb-true, ltb-false, eqb-true, le-leb, lt-leb}
-use Rattle.lists.specs.Bool.{◌or◌, every_at, or_left, or_right, or_none, true≢false}
+use Rattle.std.proofs.Math.Dec.{leb}
+use borrow.Author.Tests.{leb-true, eqb-true, le-leb}
+use Rattle.lists.specs.Bool.{every_at}
 use Rattle.lists.specs.Bounded.{lt_or_le}
 use Rattle.lists.specs.Range.{range, length_range}
 use Rattle.lists.specs.Stores.{sets_all}
 use Rattle.lists.specs.Writes.{Stores, stores_turn, stores_done}
 use Rattle.lists.specs.Refusals.{refusal_at}
 use Rattle.job.specs.declared.JobNumbers.{JobNumbers}
-use Rattle.job.specs.Job.{JobRead, Whole, Refused, two, twos, rest_length, cell_count, most_worklist_cells, job_numbers, job_vertices, job_edges, job_right, job_small, job_refusal, read_answer, read_job, front, vertex_list_of, edge_list_of}
+use Rattle.job.specs.Job.{JobRead, Whole, Refused, two, twos, rest_length, cell_count, within, job_numbers, job_vertices, job_edges, job_right, job_small, job_refusal, read_answer, read_job, front, vertex_list_of, edge_list_of}
 
 -- ---- checks 12 and 13
 
@@ -32,28 +33,14 @@ right_long s h =
     let says : length s ≡ 4 + rest_length s = eqb-true _ _ (every_at _ h 1) in
     record { fields = leb-true _ _ (every_at _ h 0); long = omega arith }
 
-both : (a b : Bool) → a && b ≡ true → (a ≡ true) × (b ≡ true)
-both true b e = (refl, e)
-both false b e = absurd (true≢false (sym e))
+-- the test of the limit, which is C where there is none
+pub within_most : (limit : Option ℕ) (C : ℕ) {most : ℕ} → most ≡ unwrap_or limit C → within limit C ≡ leb C most
+within_most None C e = sym (le-leb _ _ (omega (arith, e)))
+within_most (Some most) C e = rw e
 
--- the test of the limit
-module _ (limited : Bool) (C : ℕ) where
-  pub limit_broken : limited && ltb most_worklist_cells C ≡ true → leb C most_worklist_cells or not limited ≡ false
-  limit_broken h =
-      let l = both limited (ltb most_worklist_cells C) h in
-      let many : most_worklist_cells < C = ltb-true most_worklist_cells C l.1 in
-      or_none _ _ (lt-leb _ _ many) (ap not l.0)
-
-  pub limit_kept : limited && ltb most_worklist_cells C ≡ false → leb C most_worklist_cells or not limited ≡ true
-  limit_kept = passes limited
-    where
-      passes : (b : Bool) → b && ltb most_worklist_cells C ≡ false → leb C most_worklist_cells or not b ≡ true
-      passes true k = let few : C ≤ most_worklist_cells = ltb-false most_worklist_cells C k in or_left _ _ (le-leb _ _ few)
-      passes false k = or_right _ _ refl
-
-module _ (s : List ℕ) (limited : Bool) where
+module _ (s : List ℕ) (limit : Option ℕ) where
   -- no refusal: the job is long enough
-  pub passed_long : job_refusal s limited ≡ 0 → Long s
+  pub passed_long : job_refusal s limit ≡ 0 → Long s
   unfolding job_refusal
   passed_long e = right_long s (refusal_at _ e refl 0)
 
@@ -116,20 +103,20 @@ module _ (s : List ℕ) (k n : ℕ) (list : List ℕ) where
 
 -- ---- what reading a job answers and writes
 
-module _ (s : List ℕ) (limited : Bool) where
-  pub read_refused : {v : ℕ} → v ≡ job_refusal s limited → (v ≡ 0 → ⊥) → {vs es : List ℕ}
-      → (Refused v ≡ read_job s limited) × ((vs ≡ vertex_list_of s limited vs) × (es ≡ edge_list_of s limited es))
+module _ (s : List ℕ) (limit : Option ℕ) where
+  pub read_refused : {v : ℕ} → v ≡ job_refusal s limit → (v ≡ 0 → ⊥) → {vs es : List ℕ}
+      → (Refused v ≡ read_job s limit) × ((vs ≡ vertex_list_of s limit vs) × (es ≡ edge_list_of s limit es))
   unfolding read_job vertex_list_of edge_list_of
   read_refused {v} e h {vs} {es} = go v h e
     where
-      go : (v : ℕ) → (v ≡ 0 → ⊥) → v ≡ job_refusal s limited
-          → (Refused v ≡ read_job s limited) × ((vs ≡ vertex_list_of s limited vs) × (es ≡ edge_list_of s limited es))
+      go : (v : ℕ) → (v ≡ 0 → ⊥) → v ≡ job_refusal s limit
+          → (Refused v ≡ read_job s limit) × ((vs ≡ vertex_list_of s limit vs) × (es ≡ edge_list_of s limit es))
       go zero h e = absurd (h refl)
       go (suc v) h e = (rw (← e), (rw (← e), rw (← e)))
 
-  pub read_whole : job_refusal s limited ≡ 0 → {n : JobNumbers} {C : ℕ} → n ≡ job_numbers s → C ≡ cell_count s → (vs es : List ℕ) {vs' es' : List ℕ}
+  pub read_whole : job_refusal s limit ≡ 0 → {n : JobNumbers} {C : ℕ} → n ≡ job_numbers s → C ≡ cell_count s → (vs es : List ℕ) {vs' es' : List ℕ}
       → vs' ≡ front (twos s 19 (3 * C)) vs → es' ≡ front (twos s (19 + 2 * (3 * C)) (3 * C)) es
-      → (Whole n ≡ read_job s limited) × ((vs' ≡ vertex_list_of s limited vs) × (es' ≡ edge_list_of s limited es))
+      → (Whole n ≡ read_job s limit) × ((vs' ≡ vertex_list_of s limit vs) × (es' ≡ edge_list_of s limit es))
   unfolding read_job vertex_list_of edge_list_of
   read_whole e {n} {C} en ec vs es ev ee =
       let at : 19 + 2 * (3 * C) ≡ 19 + 6 * cell_count s = omega (arith, ec) in
@@ -147,23 +134,19 @@ answer_refused : (v n : ℕ) (m : JobNumbers) → read_answer v m ≡ Refused n 
 answer_refused zero n m e = let z : ◌≡◌ {A = ℕ} 0 1 = cc in absurd (omega arith)
 answer_refused (suc v) n m e = let same : n ≡ suc v = cc in (same, omega arith)
 
-module _ (s : List ℕ) (limited : Bool) {r : JobRead} (answers : r ≡ read_job s limited) where
-  pub read_numbers : {n : JobNumbers} → r ≡ Whole n → (job_refusal s limited ≡ 0) × (n ≡ job_numbers s)
+module _ (s : List ℕ) (limit : Option ℕ) {r : JobRead} (answers : r ≡ read_job s limit) where
+  pub read_numbers : {n : JobNumbers} → r ≡ Whole n → (job_refusal s limit ≡ 0) × (n ≡ job_numbers s)
   unfolding read_job
-  read_numbers {n} e = answer_whole (job_refusal s limited) (job_numbers s) n (sym answers ∙ e)
+  read_numbers {n} e = answer_whole (job_refusal s limit) (job_numbers s) n (sym answers ∙ e)
 
-  pub read_refusal : {v : ℕ} → r ≡ Refused v → (v ≡ job_refusal s limited) × (0 < v)
+  pub read_refusal : {v : ℕ} → r ≡ Refused v → (v ≡ job_refusal s limit) × (0 < v)
   unfolding read_job
-  read_refusal {v} e = answer_refused (job_refusal s limited) v (job_numbers s) (sym answers ∙ e)
+  read_refusal {v} e = answer_refused (job_refusal s limit) v (job_numbers s) (sym answers ∙ e)
 
 -- few cells
-pub limited_small : (s : List ℕ) → job_refusal s true ≡ 0 → cell_count s ≤ most_worklist_cells
-unfolding job_refusal job_small ◌or◌
-limited_small s e = leb-true _ _ (small (leb (cell_count s) most_worklist_cells) (refusal_at _ e refl 1))
-  where
-    small : (b : Bool) → b or false ≡ true → b ≡ true
-    small true e = refl
-    small false e = e
+pub limited_small : (s : List ℕ) {most : ℕ} → job_refusal s (Some most) ≡ 0 → cell_count s ≤ most
+unfolding job_refusal job_small
+limited_small s e = leb-true _ _ (refusal_at _ e refl 1)
 
 -- the two lists, where there is room
 take_front : (s : List ℕ) (k n : ℕ) (list : List ℕ) → n ≤ length list → take n (front (twos s k n) list) ≡ twos s k n
@@ -171,11 +154,11 @@ unfolding front
 take_front s k n list h =
     rw (take_all (length list) (twos s k n) (omega (arith, length_twos s k n))) (take_at (twos s k n) _ n (length_twos s k n))
 
-module _ (s : List ℕ) (limited : Bool) (none : job_refusal s limited ≡ 0) (list : List ℕ) (room : 3 * cell_count s ≤ length list) where
-  pub take_vertices : take (3 * cell_count s) (vertex_list_of s limited list) ≡ job_vertices s
+module _ (s : List ℕ) (limit : Option ℕ) (none : job_refusal s limit ≡ 0) (list : List ℕ) (room : 3 * cell_count s ≤ length list) where
+  pub take_vertices : take (3 * cell_count s) (vertex_list_of s limit list) ≡ job_vertices s
   unfolding vertex_list_of
   take_vertices = rw none (take_front s 19 (3 * cell_count s) list room)
 
-  pub take_edges : take (3 * cell_count s) (edge_list_of s limited list) ≡ job_edges s
+  pub take_edges : take (3 * cell_count s) (edge_list_of s limit list) ≡ job_edges s
   unfolding edge_list_of
   take_edges = rw none (take_front s (19 + 6 * cell_count s) (3 * cell_count s) list room)

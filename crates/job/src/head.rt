@@ -1,10 +1,9 @@
 // The fields of the job format, big-endian, and what the first 7 bytes of a job decide.
-ghost use Rattle.std.specs.Prelude.{◌≡◌, ◌+◌, ◌*◌, ◌<◌, length, eqb, leb, not, ◌∷◌, []};
+ghost use Rattle.std.specs.Prelude.{◌≡◌, ◌+◌, ◌*◌, ◌<◌, length, eqb, ◌∷◌, []};
 ghost use Rattle.job.specs.Answers.{head_told, told};
 ghost use Rattle.job.specs.Head.{head_right, read_head, size_refusal};
-ghost use Rattle.lists.specs.Bool.{◌or◌};
 ghost use Rattle.lists.specs.Refusals.{check, refusal};
-ghost use Rattle.job.specs.Job.{two, four, most_worklist_cells};
+ghost use Rattle.job.specs.Job.{two, four, within};
 
 use crate::{JobRefusal, MOST_WORKLIST_CELLS};
 
@@ -13,7 +12,7 @@ pub(crate) fn two_at(bytes: &[u8], k: usize) -> u16
     requires { k + 1 < length bytes.now }
     ensures { result ≡ two bytes.now k }
 {
-    u16::from_be_bytes([bytes[k], bytes[k + 1]])
+    u16::from_be_bytes(bytes[k..k + 2].try_into().unwrap())
 }
 
 // The number of 4 bytes from byte k on.
@@ -21,7 +20,7 @@ fn four_at(bytes: &[u8], k: usize) -> u32
     requires { k + 3 < length bytes.now }
     ensures { result ≡ four bytes.now k }
 {
-    u32::from_be_bytes([bytes[k], bytes[k + 1], bytes[k + 2], bytes[k + 3]])
+    u32::from_be_bytes(bytes[k..k + 4].try_into().unwrap())
 }
 
 // Whether the first 7 bytes are there and right.
@@ -48,14 +47,16 @@ pub fn read_head(bytes: &[u8]) -> Result<u32, JobRefusal>
     }
 }
 
-// Check 12 and, where asked, 13 of a job whose first 7 bytes are right and say so many cells, and of which so many bytes came.
-pub(crate) fn check_cells(cells: u32, bytes: usize, limited: bool) -> Result<(), JobRefusal>
-    ensures { told result ≡ refusal (check 12 (eqb bytes (19 + 12 * cells)) ∷ check 13 (leb cells most_worklist_cells or not limited) ∷ []) }
+// Check 12 and, where there is a limit, 13 of a job whose first 7 bytes are right and say so many cells, and of which so many bytes came.
+pub(crate) fn check_cells(cells: u32, bytes: usize, limit: Option<u32>) -> Result<(), JobRefusal>
+    ensures { told result ≡ refusal (check 12 (eqb bytes (19 + 12 * cells)) ∷ check 13 (within limit cells) ∷ []) }
 {
     if bytes != 19 + 12 * cells as usize {
         return Err(JobRefusal::Malformed);
     }
-    if limited & (MOST_WORKLIST_CELLS < cells) {
+    // No limit: as many as there are.
+    let most = limit.unwrap_or(cells);
+    if most < cells {
         return Err(JobRefusal::TooLarge);
     }
     Ok(())
@@ -65,5 +66,5 @@ pub(crate) fn check_cells(cells: u32, bytes: usize, limited: bool) -> Result<(),
 pub fn check_size(cells: u32, bytes: usize) -> Result<(), JobRefusal>
     ensures { told result ≡ size_refusal cells bytes }
 {
-    check_cells(cells, bytes, true)
+    check_cells(cells, bytes, Some(MOST_WORKLIST_CELLS))
 }

@@ -7,12 +7,12 @@ use crate::head::{check_cells, two_at};
 use crate::{JobNumbers, JobRefusal, read_head};
 use function::Element;
 
-// Check 12 and, where asked, 13.
-fn check_job(bytes: &[u8], limited: bool) -> Result<(), JobRefusal>
-    ensures { told result ≡ job_refusal bytes.now limited }
+// Check 12 and, where there is a limit, 13.
+fn check_job(bytes: &[u8], limit: Option<u32>) -> Result<(), JobRefusal>
+    ensures { told result ≡ job_refusal bytes.now limit }
 {
     let cells = read_head(bytes)?;
-    check_cells(cells, bytes.len(), limited)
+    check_cells(cells, bytes.len(), limit)
 }
 
 // The element whose a, b and c are bytes k, k + 1 and k + 2.
@@ -27,7 +27,7 @@ fn element_at(bytes: &[u8], k: usize) -> Element
     }
 }
 
-// The numbers before the lists.
+// The numbers before the lists. (Not by `From`, which may ask nothing of its bytes: there have to be 19.)
 fn numbers_of(bytes: &[u8]) -> JobNumbers
     requires { 19 ≤ length bytes.now }
     ensures { (result ≡ job_numbers bytes.now) × (result.cells < 65536) }
@@ -61,19 +61,19 @@ fn read_front(bytes: &[u8], at: usize, n: usize, list: &mut [u32])
     read_numbers(bytes, at, &mut list[..most]);
 }
 
-// Reads a job: its numbers, with its vertices and edges at the front of the two lists, as far as these have room; or 12; or, where it is
-// limited to the cells of `worklist`, 13. A refusal writes nothing.
+// Reads a job: its numbers, with its vertices and edges at the front of the two lists, as far as these have room; or 12; or, where it has
+// more cells than the limit, 13. A refusal writes nothing.
 pub fn read_job(
     bytes: &[u8],
-    limited: bool,
+    limit: Option<u32>,
     vertex_list: &mut [u32],
     edge_list: &mut [u32],
 ) -> Result<JobNumbers, JobRefusal>
-    ensures value { job_told result ≡ read_job bytes.now limited }
-    ensures vertex_list_after { vertex_list.new ≡ vertex_list_of bytes.now limited vertex_list.old }
-    ensures edge_list_after { edge_list.new ≡ edge_list_of bytes.now limited edge_list.old }
+    ensures value { job_told result ≡ read_job bytes.now limit }
+    ensures vertex_list_after { vertex_list.new ≡ vertex_list_of bytes.now limit vertex_list.old }
+    ensures edge_list_after { edge_list.new ≡ edge_list_of bytes.now limit edge_list.old }
 {
-    check_job(bytes, limited)?;
+    check_job(bytes, limit)?;
     let numbers = numbers_of(bytes);
     let n = 3 * numbers.cells as usize;
     let vertices_at = 19;

@@ -1,6 +1,6 @@
 -- What `worklist` prints for the bytes of standard input: one line a record, three decimal numbers parted by one blank; or `refused n`. As bytes.
 -- Assumes nothing.
-use Rattle.std.specs.Prelude.{ℕ, zero, suc, ◌+◌, ◌/◌, ◌%◌, true, cond, ltb}
+use Rattle.std.specs.Prelude.{ℕ, zero, suc, ◌+◌, ◌/◌, ◌%◌, Some, cond, ltb}
 use mathlib.Core.List.{List, [], ◌∷◌, ◌++◌, flat_map}
 use Rattle.lists.specs.Refusals.{refusal}
 use Rattle.grid.specs.Mesh.{triangles}
@@ -10,7 +10,7 @@ use Rattle.integrands.specs.declared.Integrand.{Integrand}
 use Rattle.integrands.specs.declared.Term.TheVariants.{Bare}
 use Rattle.plans.specs.Planning.{Planning, plan_checks, lists_for, work_records}
 use Rattle.job.specs.declared.JobNumbers.{JobNumbers}
-use Rattle.job.specs.Job.{job_numbers, job_vertices, job_edges, job_checks}
+use Rattle.job.specs.Job.{job_numbers, job_vertices, job_edges, most_worklist_cells, job_checks}
 
 -- the decimal digits of a number below 10^k, as bytes (0 is 48)
 unfoldable pub digits : ℕ → ℕ → List ℕ
@@ -49,7 +49,7 @@ job_planning s = numbers_planning (job_numbers s) (job_vertices s) (job_edges s)
 
 -- `worklist` checks 12, 13 first, then plans with lists of the right lengths
 unfoldable pub worklist_refusal : List ℕ → ℕ
-worklist_refusal s = refusal (job_checks s true ++ plan_checks (job_planning s) (lists_for (job_planning s)))
+worklist_refusal s = refusal (job_checks s (Some most_worklist_cells) ++ plan_checks (job_planning s) (lists_for (job_planning s)))
 
 abbrev pub text_answer : ℕ → List ℕ → List ℕ
 text_answer zero s = flat_map line_of (work_records (job_planning s))

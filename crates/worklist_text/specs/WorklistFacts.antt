@@ -1,7 +1,6 @@
 -- What `worklist` prints, by what reading the job answers and leaves, by its first 7 bytes. Assumes nothing.
-use Rattle.std.specs.Prelude.{ℕ, zero, suc, ◌+◌, ◌*◌, ◌≤◌, ◌<◌, ◌≡◌, refl, List, ◌++◌, length, take}
+use Rattle.std.specs.Prelude.{ℕ, zero, suc, ◌+◌, ◌*◌, ◌≤◌, ◌<◌, ◌≡◌, refl, Some, List, ◌++◌, length, take}
 use Rattle.std.proofs.Common.{arith, sym, ap, ◌∙◌, ⊎_elim, take_all}
-use Rattle.std.proofs.Math.Bool.{true}
 use Rattle.std.proofs.lemmas.List.{take-append-le}
 use Rattle.lists.specs.Bounded.{lt_or_le}
 use Rattle.lists.specs.Refusals.{refusal_first, refusal_rest}
@@ -19,21 +18,21 @@ use Rattle.worklist_text.specs.PlannedFacts.{text_short}
 -- ---- what `worklist` prints
 
 -- 12 or 13
-pub refused_worklist : (s : List ℕ) {v : ℕ} → v ≡ job_refusal s true → 0 < v → refused_line v ≡ worklist s
+pub refused_worklist : (s : List ℕ) {v : ℕ} → v ≡ job_refusal s (Some most_worklist_cells) → 0 < v → refused_line v ≡ worklist s
 unfolding worklist worklist_refusal job_refusal
 refused_worklist s {v} e h =
-    go v h ∙ ap (λ (k : ℕ). text_answer k s) (refusal_first (job_checks s true) (plan_checks (job_planning s) (lists_for (job_planning s))) v e (λ (z : v ≡ 0). omega arith))
+    go v h ∙ ap (λ (k : ℕ). text_answer k s) (refusal_first (job_checks s (Some most_worklist_cells)) (plan_checks (job_planning s) (lists_for (job_planning s))) v e (λ (z : v ≡ 0). omega arith))
   where
     go : (k : ℕ) → 0 < k → refused_line k ≡ text_answer k s
     go zero l = absurd (omega arith)
     go (suc k) l = refl
 
 -- a job that passes 12 and 13 is planned
-passes_on : (s : List ℕ) → job_refusal s true ≡ 0 → worklist_refusal s ≡ plan_refusal (job_planning s) (lists_for (job_planning s))
+passes_on : (s : List ℕ) → job_refusal s (Some most_worklist_cells) ≡ 0 → worklist_refusal s ≡ plan_refusal (job_planning s) (lists_for (job_planning s))
 unfolding job_refusal worklist_refusal plan_refusal
-passes_on s e = refusal_rest (job_checks s true) _ e refl
+passes_on s e = refusal_rest (job_checks s (Some most_worklist_cells)) _ e refl
 
-planned_worklist : (s : List ℕ) → job_refusal s true ≡ 0 → right_text (job_planning s) ≡ worklist s
+planned_worklist : (s : List ℕ) → job_refusal s (Some most_worklist_cells) ≡ 0 → right_text (job_planning s) ≡ worklist s
 unfolding worklist planned_text
 planned_worklist s e =
     go (plan_refusal (job_planning s) (lists_for (job_planning s))) ∙ ap (λ (k : ℕ). text_answer k s) (sym (passes_on s e))
@@ -45,39 +44,39 @@ planned_worklist s e =
 -- it is never longer than the array
 pub worklist_short : (s : List ℕ) → length (worklist s) ≤ most_text
 unfolding job_planning
-worklist_short s = go (job_refusal s true) refl
+worklist_short s = go (job_refusal s (Some most_worklist_cells)) refl
   where
-    go : (v : ℕ) → job_refusal s true ≡ v → length (worklist s) ≤ most_text
+    go : (v : ℕ) → job_refusal s (Some most_worklist_cells) ≡ v → length (worklist s) ≤ most_text
     go zero e = rw (planned_worklist s e) at (text_short (job_planning s) (lists_for (job_planning s)) (limited_small s e))
     go (suc v) e = let few : length (refused_line (suc v)) ≤ most_text = omega (arith, refused_short (suc v)) in rw (refused_worklist s {v = suc v} (sym e) (omega arith)) at few
 
 -- what reading the job answers and leaves
 module _ (s : List ℕ) where
   -- the numbers: the text that they are planned to, with the fronts of the two lists
-  pub numbers_text : {n : JobNumbers} → Whole n ≡ read_job s true → (vs es : List ℕ) → 3 * most_worklist_cells ≤ length vs → 3 * most_worklist_cells ≤ length es → {vs' es' : List ℕ}
-      → vs' ≡ vertex_list_of s true vs → es' ≡ edge_list_of s true es → {text : List ℕ}
+  pub numbers_text : {n : JobNumbers} → Whole n ≡ read_job s (Some most_worklist_cells) → (vs es : List ℕ) → 3 * most_worklist_cells ≤ length vs → 3 * most_worklist_cells ≤ length es → {vs' es' : List ℕ}
+      → vs' ≡ vertex_list_of s (Some most_worklist_cells) vs → es' ≡ edge_list_of s (Some most_worklist_cells) es → {text : List ℕ}
       → text ≡ right_text (numbers_planning n (take (3 * n.cells) vs') (take (3 * n.cells) es')) → text ≡ worklist s
   unfolding job_planning
   numbers_text answers vs es hv he ev ee same =
-      let said = read_numbers s true answers refl in
+      let said = read_numbers s (Some most_worklist_cells) answers refl in
       let none = said.0 in
       let small = limited_small s none in
-      let vertices = take_vertices s true none vs (omega arith) in
-      let edges = take_edges s true none es (omega arith) in
+      let vertices = take_vertices s (Some most_worklist_cells) none vs (omega arith) in
+      let edges = take_edges s (Some most_worklist_cells) none es (omega arith) in
       rw (planned_worklist s none) at (rw (said.1, ev, ee, vertices, edges) at same)
 
-  pub numbers_small : {n : JobNumbers} → Whole n ≡ read_job s true → n.cells ≤ most_worklist_cells
-  numbers_small answers = let said = read_numbers s true answers refl in rw said.1 (limited_small s said.0)
+  pub numbers_small : {n : JobNumbers} → Whole n ≡ read_job s (Some most_worklist_cells) → n.cells ≤ most_worklist_cells
+  numbers_small answers = let said = read_numbers s (Some most_worklist_cells) answers refl in rw said.1 (limited_small s said.0)
 
   -- the refusal
-  pub refusal_line : {v : ℕ} → Refused v ≡ read_job s true → refused_line v ≡ worklist s
-  refusal_line answers = let said = read_refusal s true answers refl in refused_worklist s said.0 said.1
+  pub refusal_line : {v : ℕ} → Refused v ≡ read_job s (Some most_worklist_cells) → refused_line v ≡ worklist s
+  refusal_line answers = let said = read_refusal s (Some most_worklist_cells) answers refl in refused_worklist s said.0 said.1
 
 -- ---- what the first 7 bytes decide
 
 -- they are refused: so is every input that they begin
 pub head_wrong_text : (s : List ℕ) {n : ℕ} → head_number (read_head (take 7 s)) ≡ n → 0 < n → refused_line n ≡ worklist s
-head_wrong_text s e h = refused_worklist s ((head_wrong s e h).1 true) h
+head_wrong_text s e h = refused_worklist s ((head_wrong s e h).1 (Some most_worklist_cells)) h
 
 -- they say too many cells: the number of bytes gives the text
 pub head_large_text : (s : List ℕ) {C : ℕ} → Says (read_head (take 7 s)) C → most_worklist_cells < C → refused_line (size_refusal C (length s)) ≡ worklist s
@@ -92,7 +91,7 @@ head_enough_text s {C} says = ⊎_elim shorter longer (lt_or_le (length s) (20 +
 
     longer : 20 + 12 * C ≤ length s → worklist (take (20 + 12 * C) s) ≡ worklist s
     longer h =
-        let r = head_longer s says h true in
+        let r = head_longer s says h (Some most_worklist_cells) in
         sym (refused_worklist (take (20 + 12 * C) s) r.0 (omega arith)) ∙ refused_worklist s r.1 (omega arith)
 
 -- so that what follows enough bytes changes nothing

@@ -113,7 +113,7 @@ pub fn worklist_text(bytes: &[u8]) -> Text
 {
     let mut vertex_list = [0; 3 * CELLS];
     let mut edge_list = [0; 3 * CELLS];
-    match read_job(bytes, true, &mut vertex_list, &mut edge_list) {
+    match read_job(bytes, Some(MOST_WORKLIST_CELLS), &mut vertex_list, &mut edge_list) {
         Ok(job) => numbers_text(job, &vertex_list, &edge_list),
         Err(refusal) => refused_text(refusal.number()),
     }

@@ -7,7 +7,7 @@ use Rattle.job.proofs.reading.check_job.Goals as goal
 pub returns-in_err-cells : goal.returns-in_err-cells
 returns-in_err-cells c =
     let p = err_from_is_err_and c.from_residual.result c.from_residual.ensures.1 in
-    rw (p.1, p.2) (job_wrong c.args.bytes.now c.args.limited c.in_err-cells.ensures)
+    rw (p.1, p.2) (job_wrong c.args.bytes.now c.args.limit c.in_err-cells.ensures)
 
 pub returns : goal.returns
-returns c = c.check_cells.ensures ∙ job_size c.args.bytes.now c.args.limited c.in_ok-cells.ensures
+returns c = c.check_cells.ensures ∙ job_size c.args.bytes.now c.args.limit c.in_ok-cells.ensures
