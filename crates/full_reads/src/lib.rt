@@ -44,7 +44,7 @@ impl<R: Read> Source<R> {
     }
 
     // Reads until the piece is full, the input ends or a read fails, and answers how many bytes came, which stand at its front. A loop over reads, since std's
-    // `read_exact` says nothing of the bytes that came before a failure.
+    // `read_exact` says nothing of the bytes that came before a failure; and a `while`, since the place grows by what came and not by one.
     pub fn read_full(&mut self, piece: &mut [u8]) -> usize
         ensures within { result ≤ length piece.new }
         ensures bytes { Consumes (bytes_left R.remaining self.old) (bytes_left R.remaining self.new) (take result piece.new) }
@@ -67,7 +67,7 @@ impl<R: Read> Source<R> {
         ensures ended { IsTrue result → HasNotFailed self.new → IsAtEnd (bytes_left R.remaining self.new) }
         ensures failed { HasNotFailed self.new → HasNotFailed self.old }
     {
-        let mut byte = [0u8; 1];
+        let mut byte = [0];
         self.read_full(&mut byte) == 0
     }
 

@@ -9,9 +9,10 @@ use Rattle.worklist_io.specs.declared.Answered.{Answered}
 abbrev pub most_bytes : ℕ
 most_bytes = 20 + 12 * most_worklist_cells
 
--- whatever the bytes that came, if so many did and they begin with those that are kept, the text is theirs; such bytes there are, as those that are kept are
--- among those that came; and no more came than are enough (`enough_text`)
-pub record Answers (r : Answered) : Type 0 where
-  pub shown : (came : List ℕ) → length came ≡ r.came → take (length r.kept.now) came ≡ r.kept.now → r.text.bytes ≡ worklist came
-  pub among : length r.kept.now ≤ r.came
-  pub few : r.came ≤ enough_bytes (read_head r.kept.now)
+-- whatever the bytes that came, if so many did and those that are kept stand in the list, the text is theirs; such bytes there are, as the kept ones are
+-- among those that came and have room in the list; and no more came than are enough (`enough_text`)
+pub record Answers (bytes : List ℕ) (r : Answered) : Type 0 where
+  pub shown : (came : List ℕ) → length came ≡ r.came → take r.kept came ≡ take r.kept bytes → r.text.bytes ≡ worklist came
+  pub among : r.kept ≤ r.came
+  pub room : r.kept ≤ length bytes
+  pub few : r.came ≤ enough_bytes (read_head (take r.kept bytes))

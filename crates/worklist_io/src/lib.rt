@@ -18,11 +18,12 @@ const MOST_BYTES: usize = 20 + 12 * (MOST_WORKLIST_CELLS as usize);
 // How many bytes are read at a time where none is kept.
 const SKIPPED: usize = 4096;
 
-// How many bytes came, the first of them, which are kept, and the text for them.
+// How many bytes came, how many of them, the first, stand in the list that they were read into, and the text for them. (A number, and no part of that list:
+// a `&mut` that goes into a result has no value after the call that a contract could name, and the contract ties the bytes to the list.)
 #[derive(Clone, Copy)]
-struct Answered<'a> {
+struct Answered {
     came: usize,
-    kept: &'a [u8],
+    kept: usize,
     text: Text,
 }
 
@@ -38,6 +39,7 @@ fn read_some<R: Read>(file: &mut Source<R>, piece: &mut [u8], n: usize) -> usize
 fn skip<R: Read>(file: &mut Source<R>, n: usize) -> usize
     ensures { result ≤ n }
 {
+    // Of fixed size, as nothing here allocates; a piece is read in part only where the input ends.
     let mut piece = [0; SKIPPED];
     let mut count = 0;
     while count < n {
@@ -51,48 +53,44 @@ fn skip<R: Read>(file: &mut Source<R>, n: usize) -> usize
 }
 
 // The answer to a job of at most 64 cells, whose first 7 bytes are read.
-fn small_answer<'a, R: Read>(
-    file: &mut Source<R>,
-    bytes: &'a mut [u8; MOST_BYTES],
-    cells: u32,
-) -> Answered<'a>
+fn small_answer<R: Read>(file: &mut Source<R>, bytes: &mut [u8; MOST_BYTES], cells: u32) -> Answered
     requires { (cells ≤ most_worklist_cells) × Says (read_head (take 7 bytes.old)) cells }
-    ensures { Answers result }
+    ensures { Answers bytes.new result }
 {
     let came = 7 + read_some(file, &mut bytes[7..], 13 + 12 * cells as usize);
     let text = worklist_text(&bytes[..came]);
     Answered {
         came,
-        kept: &bytes[..came],
+        kept: came,
         text,
     }
 }
 
 // The answer to a job of more than 64 cells, whose first 7 bytes are read: the others are not kept.
-fn large_answer<'a, R: Read>(file: &mut Source<R>, head: &'a [u8], cells: u32) -> Answered<'a>
-    requires { (most_worklist_cells < cells) × (length head.now ≡ 7) × Says (read_head head.now) cells }
-    ensures { Answers result }
+fn large_answer<R: Read>(file: &mut Source<R>, bytes: &[u8], cells: u32) -> Answered
+    requires { (most_worklist_cells < cells) × (7 ≤ length bytes.now) × Says (read_head (take 7 bytes.now)) cells }
+    ensures { Answers bytes.now result }
 {
     let came = 7 + skip(file, 13 + 12 * cells as usize);
     let refusal = check_size(cells, came).unwrap_err();
     Answered {
         came,
-        kept: head,
+        kept: 7,
         text: refused_text(refusal.number()),
     }
 }
 
 // The answer to what the file holds.
-fn answer<'a, R: Read>(file: &mut Source<R>, bytes: &'a mut [u8; MOST_BYTES]) -> Answered<'a>
-    ensures { Answers result }
+fn answer<R: Read>(file: &mut Source<R>, bytes: &mut [u8; MOST_BYTES]) -> Answered
+    ensures { Answers bytes.new result }
 {
     let came = read_some(file, bytes, 7);
     match read_head(&bytes[..came]) {
         Ok(cells) if cells <= MOST_WORKLIST_CELLS => small_answer(file, bytes, cells),
-        Ok(cells) => large_answer(file, &bytes[..came], cells),
+        Ok(cells) => large_answer(file, bytes, cells),
         Err(refusal) => Answered {
             came,
-            kept: &bytes[..came],
+            kept: came,
             text: refused_text(refusal.number()),
         },
     }
@@ -101,6 +99,7 @@ fn answer<'a, R: Read>(file: &mut Source<R>, bytes: &'a mut [u8; MOST_BYTES]) ->
 // The whole of the program `worklist`, on the job that an open file holds: prints the answer by one call, then hands back the error where a read failed.
 pub fn answer_file<P: Print, R: Read>(rt: &P, file: &mut R) -> io::Result<()> {
     let mut file = Source::new(file);
+    // Of fixed size, as nothing here allocates: `MOST_BYTES` is what the largest job needs.
     let mut bytes = [0; MOST_BYTES];
     let answer = answer(&mut file, &mut bytes);
     rt.write_all(answer.text.as_str().as_bytes())?;

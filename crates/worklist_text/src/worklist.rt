@@ -18,8 +18,7 @@ use job::{JobNumbers, MOST_WORKLIST_CELLS, read_job};
 use planning::{Assembly, plan};
 use plans::PlanLists;
 
-// The most cells of a job, places of a DOF list, and pairs of cells. The lists of the most cells stand in arrays, since planning is lent its lists and nothing here
-// allocates.
+// The most cells of a job, places of a DOF list, and pairs of cells.
 const CELLS: usize = MOST_WORKLIST_CELLS as usize;
 
 const DOFS: usize = CELLS * MOST_DIM;
@@ -48,6 +47,7 @@ fn mesh_text(mesh: Mesh, assembly: Assembly) -> Text
     let cells = mesh.sizes.cells as usize;
     let rows = dof_places(mesh.sizes.cells, assembly.test.triangle);
     let columns = dof_places(mesh.sizes.cells, assembly.trial.triangle);
+    // Of fixed size, as nothing here allocates; planning is lent the front of each, of just the length that check 8 wants.
     let mut test_dofs = [0; DOFS];
     let mut trial_dofs = [0; DOFS];
     let mut test_colours = [0; CELLS];
@@ -111,9 +111,15 @@ fn numbers_text(job: JobNumbers, vertex_list: &[u32], edge_list: &[u32]) -> Text
 pub fn worklist_text(bytes: &[u8]) -> Text
     ensures { result.bytes ≡ worklist bytes.now }
 {
+    // Of fixed size, as nothing here allocates: the most cells that a job may have.
     let mut vertex_list = [0; 3 * CELLS];
     let mut edge_list = [0; 3 * CELLS];
-    match read_job(bytes, Some(MOST_WORKLIST_CELLS), &mut vertex_list, &mut edge_list) {
+    match read_job(
+        bytes,
+        Some(MOST_WORKLIST_CELLS),
+        &mut vertex_list,
+        &mut edge_list,
+    ) {
         Ok(job) => numbers_text(job, &vertex_list, &edge_list),
         Err(refusal) => refused_text(refusal.number()),
     }

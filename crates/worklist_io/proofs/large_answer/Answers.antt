@@ -1,5 +1,5 @@
 -- Assumes nothing.
-use Rattle.std.proofs.Common.{arith, ap, sym, ◌∙◌}
+use Rattle.std.proofs.Common.{arith, refl, ap, sym, ◌∙◌}
 use Rattle.job.specs.Answers.{told}
 use Rattle.worklist_text.specs.Text.{refused_line}
 use Rattle.worklist_io.specs.AnswersFacts.{turned_down, large_answers}
@@ -11,4 +11,4 @@ unwrap_err-refusal-requires g c = turned_down _ _ _ c.check_size.ensures c.requi
 pub returns : goal.returns
 returns g c =
     let number = c.number.ensures ∙ ap told (sym c.unwrap_err-refusal.ensures) ∙ c.check_size.ensures in
-    large_answers _ c.requires.2 c.requires.0 (omega arith) (omega (arith, c.skip-came.ensures)) c.requires.1 (c.refused_text.ensures ∙ ap refused_line number)
+    large_answers _ _ c.requires.2 c.requires.0 (omega arith) (omega (arith, c.skip-came.ensures)) c.requires.1 refl (c.refused_text.ensures ∙ ap refused_line number)
