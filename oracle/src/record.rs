@@ -36,7 +36,7 @@ use std::fmt::Write;
 
 const SEED: u64 = 20261116;
 const CASES: usize = 144;
-/// The largest case: a program without a heap has lists of a fixed length.
+/// The largest case.
 const MOST_CELLS: u32 = 24;
 const MOST_NUMBERS: usize = 256;
 

@@ -56,6 +56,7 @@ impl Places {
 
 impl Recorded for Places {
     fn read(words: &mut Words<'_>) -> io::Result<Self> {
+        // One field after the other, as the lengths in `recorded`, of which no field is the same.
         let places = Places {
             test_weights: usize::read(words)?,
             trial_weights: usize::read(words)?,
@@ -109,11 +110,11 @@ impl<'a> Numbers<'a> {
     }
 }
 
-/// What planning is given, the number of its refusal, or 0, and the lengths of the lists that the runs are lent and write.
+/// What planning is given, the number of its refusal, if it refuses, and the lengths of the lists that the runs are lent and write.
 #[derive(Drop)]
 pub struct Case {
     pub assembly: Assembly,
-    pub refusal: u32,
+    pub refusal: Option<u32>,
     pub lengths: PlanLengths,
     pub pairs: u32,
     pub test_owners: usize,
@@ -127,11 +128,15 @@ pub struct Case {
 
 impl Case {
     pub fn read(words: &mut Words<'_>, alloc: Global) -> io::Result<Self> {
-        let Head {
-            sizes,
-            assembly,
-            digits: [test_points, trial_points, points, refusal, _],
-        } = Head::read(words)?;
+        let head = Head::read(words)?;
+        let test_points = usize::from(words.digit()?);
+        let trial_points = usize::from(words.digit()?);
+        let points = usize::from(words.digit()?);
+        let refusal = match words.digit()? {
+            0 => None,
+            number => Some(u32::from(number)),
+        };
+        let assembly = head.read_assembly(words)?;
         let lengths = PlanLengths::read(words)?;
         let pairs = u32::read(words)? / Places::NUMBERS;
         let test_owners = usize::read(words)?;
@@ -139,8 +144,8 @@ impl Case {
         let matrix = usize::read(words)?;
         let entries = usize::read(words)?;
         let distant = Distant {
-            test_points: usize::from(test_points),
-            trial_points: usize::from(trial_points),
+            test_points,
+            trial_points,
             test_weights: usize::read(words)?,
             trial_weights: usize::read(words)?,
             test_table: usize::read(words)?,
@@ -150,17 +155,17 @@ impl Case {
             trial_geometry: usize::read(words)?,
         };
         let touching = Touching {
-            points: usize::from(points),
+            points,
             weights: usize::read(words)?,
             test_table: usize::read(words)?,
             trial_table: usize::read(words)?,
             kernel: usize::read(words)?,
             geometry: usize::read(words)?,
         };
-        let kinds = vec![in alloc; TRIANGLE; sizes.cells as usize]?;
+        let kinds = vec![in alloc; TRIANGLE; head.sizes.cells as usize]?;
         Ok(Case {
             assembly,
-            refusal: u32::from(refusal),
+            refusal,
             lengths,
             pairs,
             test_owners,
@@ -169,7 +174,7 @@ impl Case {
             entries,
             distant,
             touching,
-            mesh: MeshVecs::read(words, alloc, sizes, kinds, lengths.cell_vertices)?,
+            mesh: MeshVecs::read(words, alloc, head.sizes, kinds, lengths.cell_vertices)?,
         })
     }
 

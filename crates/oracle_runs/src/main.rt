@@ -52,7 +52,7 @@ fn planning_agrees(
     Ok(
         same & planning.entries_agree(words, alloc)?
             & planning.matrix_agrees(words, alloc)?
-            & (case.refusal == 0),
+            & case.refusal.is_none(),
     )
 }
 
@@ -62,7 +62,7 @@ fn case_agrees(words: &mut Words<'_>, alloc: Global, numbers: Numbers<'_>) -> io
     let mut lists = PlanVecs::new(alloc, case.lengths)?;
     match plan(case.mesh.mesh(), case.assembly, &mut lists.lent()) {
         Ok(counts) => planning_agrees(words, alloc, &case, counts, &lists, numbers),
-        Err(refusal) => Ok(refusal.number() == case.refusal),
+        Err(refusal) => Ok(Some(refusal.number()) == case.refusal),
     }
 }
 
@@ -79,9 +79,9 @@ fn main(rt: HostRuntime) -> io::Result<()> {
         pool: &pool,
     };
     let mut differ = 0u64;
-    for i in 0..n {
+    // Counted: each case is read from the words as it comes, and stands in no list.
+    for number in 1..=n {
         if !case_agrees(&mut words, alloc, numbers)? {
-            let number = i + 1;
             println!(rt; "differs: case {number}")?;
             differ += 1;
         }

@@ -1,4 +1,4 @@
-// The head of a recorded case: what planning is given, and digits that each program reads its own way.
+// The head of a recorded case: what planning is given.
 use crate::{Recorded, Words};
 use function::{Element, Elements};
 use grid::Sizes;
@@ -6,26 +6,28 @@ use integrands::{Integrand, Term};
 use planning::Assembly;
 use std::io;
 
-/// Whether a term has a factor, and its kind.
+/// A term, by its kind. The factor of one that has it stands further on in the file.
 #[derive(Clone, Copy)]
-struct Form {
-    scaled: bool,
-    kind: u32,
+enum Form {
+    Bare(u32),
+    Scaled(u32),
 }
 
 impl Form {
     fn read(words: &mut Words<'_>) -> io::Result<Self> {
-        Ok(Form {
-            scaled: words.digit()? != 0,
-            kind: u32::from(words.digit()?),
+        let scaled = words.digit()? != 0;
+        let kind = u32::from(words.digit()?);
+        Ok(if scaled {
+            Form::Scaled(kind)
+        } else {
+            Form::Bare(kind)
         })
     }
 
     fn term(self, factor: f64) -> Term {
-        if self.scaled {
-            Term::Scaled(factor, self.kind)
-        } else {
-            Term::Bare(self.kind)
+        match self {
+            Form::Bare(kind) => Term::Bare(kind),
+            Form::Scaled(kind) => Term::Scaled(factor, kind),
         }
     }
 }
@@ -74,44 +76,39 @@ fn on_both(element: Element) -> Elements {
     }
 }
 
-/// What planning is given, and five more digits.
+/// The head of a case: what planning is given, but for the factors of its terms. Digits that each program reads for itself stand before these.
 #[derive(Clone, Copy)]
 pub struct Head {
     pub sizes: Sizes,
-    pub assembly: Assembly,
-    pub digits: [u8; 5],
+    batch: u32,
+    test: Element,
+    trial: Element,
+    forms: Forms,
 }
 
 impl Head {
     pub fn read(words: &mut Words<'_>) -> io::Result<Self> {
         words.finish_word();
-        let sizes = Sizes {
-            cells: u32::read(words)?,
-            vertices: u32::read(words)?,
-            edges: u32::read(words)?,
-        };
-        let batch = u32::read(words)?;
-        let test = on_both(read_element(words)?);
-        let trial = on_both(read_element(words)?);
-        let forms = Forms::read(words)?;
-        let digits = [
-            words.digit()?,
-            words.digit()?,
-            words.digit()?,
-            words.digit()?,
-            words.digit()?,
-        ];
-        let integrand = forms.read_factors(words)?;
-        let assembly = Assembly {
-            test,
-            trial,
-            batch,
-            integrand,
-        };
         Ok(Head {
-            sizes,
-            assembly,
-            digits,
+            sizes: Sizes {
+                cells: u32::read(words)?,
+                vertices: u32::read(words)?,
+                edges: u32::read(words)?,
+            },
+            batch: u32::read(words)?,
+            test: read_element(words)?,
+            trial: read_element(words)?,
+            forms: Forms::read(words)?,
+        })
+    }
+
+    /// What planning is given besides the mesh: the factors are the next words.
+    pub fn read_assembly(self, words: &mut Words<'_>) -> io::Result<Assembly> {
+        Ok(Assembly {
+            test: on_both(self.test),
+            trial: on_both(self.trial),
+            batch: self.batch,
+            integrand: self.forms.read_factors(words)?,
         })
     }
 }

@@ -109,7 +109,7 @@ impl PlanVecs {
         }
     }
 
-    /// The plan for a run on cells of these kinds.
+    /// The plan for a run on cells of these kinds. (Not by `lent().plan(kinds)`: the plan would borrow from the lent lists, which end with this call.)
     pub fn plan<'a>(&'a self, kinds: &'a [u8]) -> Plan<'a> {
         Plan {
             kinds,

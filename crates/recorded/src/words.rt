@@ -61,6 +61,7 @@ impl<'a> Words<'a> {
 
     /// The next number of four digits.
     pub fn number(&mut self) -> io::Result<u16> {
+        // Masked, since a cast may lose no bits; by `try_from` an error would be handed on that never comes.
         Ok((self.bits(16)? & 0xffff) as u16)
     }
 

@@ -1,5 +1,5 @@
 // A case: what is played, and what must come of it.
-use function::{Element, Elements};
+use function::Elements;
 use planning::Assembly;
 use recorded::{Head, MeshVecs, PlanLengths, Recorded, Words, read_element};
 use std::alloc::Global;
@@ -33,15 +33,7 @@ pub struct Case {
     pub pool: Vec<f64>,
 }
 
-// The elements of a side with another one for quads.
-fn with_quads(elements: Elements, quad: Element) -> Elements {
-    Elements {
-        triangle: elements.triangle,
-        quad,
-    }
-}
-
-// What gathering must answer: nothing where it is not asked.
+// What gathering must answer: nothing where it is not asked. (The form is a number of the file.)
 fn read_gathered(words: &mut Words<'_>) -> io::Result<Option<Result<u64, u32>>> {
     let form = u32::read(words)?;
     let number = u32::read(words)?;
@@ -54,13 +46,12 @@ fn read_gathered(words: &mut Words<'_>) -> io::Result<Option<Result<u64, u32>>> 
 
 impl Case {
     pub fn read(words: &mut Words<'_>, alloc: Global) -> io::Result<Self> {
-        let Head {
-            sizes,
-            assembly,
-            digits: [entries, high, low, _, _],
-        } = Head::read(words)?;
-        let test = with_quads(assembly.test, read_element(words)?);
-        let trial = with_quads(assembly.trial, read_element(words)?);
+        let head = Head::read(words)?;
+        let entries = words.digit()? == 1;
+        let refusal = 16 * u32::from(words.digit()?) + u32::from(words.digit()?);
+        let assembly = head.read_assembly(words)?;
+        let test_quad = read_element(words)?;
+        let trial_quad = read_element(words)?;
         let lengths = PlanLengths::read(words)?;
         let call_numbers = usize::read(words)?;
         let pool = usize::read(words)?;
@@ -73,15 +64,20 @@ impl Case {
         let values = usize::read(words)?;
         let gathered = read_gathered(words)?;
         let kinds = usize::read(words)?;
-        let refusal = 16 * u32::from(high) + u32::from(low);
         let kinds = words.list(alloc, kinds)?;
         Ok(Case {
             assembly: Assembly {
-                test,
-                trial,
+                test: Elements {
+                    quad: test_quad,
+                    ..assembly.test
+                },
+                trial: Elements {
+                    quad: trial_quad,
+                    ..assembly.trial
+                },
                 ..assembly
             },
-            entries: entries == 1,
+            entries,
             lengths,
             matrix_count,
             entry_count,
@@ -97,7 +93,7 @@ impl Case {
                 values,
                 answer,
             }),
-            mesh: MeshVecs::read(words, alloc, sizes, kinds, lengths.cell_vertices)?,
+            mesh: MeshVecs::read(words, alloc, head.sizes, kinds, lengths.cell_vertices)?,
             calls: words.list(alloc, call_numbers)?,
             pool: words.list(alloc, pool)?,
         })

@@ -59,6 +59,7 @@ fn play(rt: &HostRuntime, path: &str) -> io::Result<()> {
     let mut words = Words::new(text.as_str());
     let n = words.word()?;
     let mut differ = 0u64;
+    // Counted: each case is read from the words as it comes, and stands in no list.
     for _ in 0..n {
         if !case_agrees(rt, &mut words)? {
             differ += 1;
