@@ -1,15 +1,21 @@
 -- The laws that a loop over the calls needs: none played, one more, and all of them beside the machine. Assumes nothing.
-use Rattle.std.specs.Prelude.{ℕ, zero, suc, ◌+◌, ◌-◌, ◌*◌, ◌/◌, ◌≤◌, ◌≡◌, refl, Bool, true, false, cond, length, get_or, take, drop, leb, Float}
+use Rattle.std.specs.Prelude.{ℕ, zero, suc, ◌+◌, ◌-◌, ◌*◌, ◌/◌, ◌≤◌, ◌<◌, ◌≡◌, refl, Bool, true, false, cond, length, get_or, take, drop, leb, Float}
 use Prim.Native.Nat.{min}
 use Rattle.std.proofs.Math.Nat.{min-eq_left, min-eq_right}
-use Rattle.std.proofs.Common.{div-mul-le_self, add-one, arith, sym, ◌∙◌, length-append, length-take, length-drop}
+use Rattle.std.specs.Prelude.{Option, None, Some, MatchOption}
+use Rattle.std.specs.Borrow.{Bor}
+use Rattle.std.specs.Array.{IsFirstChunk}
+use Rattle.std.specs.Option.{unwrap_or}
+use Rattle.std.specs.Slice.{IsGetRangeResult}
+use Rattle.std.proofs.Common.{⊎_elim, take_all, div-mul-le_self, add-one, arith, sym, ◌∙◌, length-append, length-drop}
 use Rattle.std.proofs.Math.Path.{ap}
 use mathlib.Core.List.{List, [], ◌∷◌, ◌++◌, flat_map}
 use Rattle.std.proofs.Math.Seq.{sets, take-length}
 use Rattle.std.proofs.lemmas.List.Edits.{sets-eq}
 use borrow.Rule.Slice.PartMut.{put_mid}
 use Rattle.std.proofs.lemmas.Slice.{put_mid-paste}
-use borrow.Author.Tests.{leb-true, leb-false, eq-eqb, ne_eqb}
+use borrow.Author.Tests.{le-leb, lt-leb, leb-true, leb-false, eq-eqb, ne_eqb}
+use Rattle.lists.specs.Bool.{◌and◌}
 use Rattle.lists.specs.Fold.{over, over_snoc, list_of}
 use Rattle.lists.specs.Range.{flat_map_append, flat_map_one}
 use Rattle.lists.specs.Stores.{sets_append, sets_front}
@@ -23,7 +29,7 @@ use Rattle.runs.specs.Machine.{machine_of, machine_run}
 use Rattle.runs.specs.Beside.{embed}
 use Rattle.runs.specs.Listed.{plan_in}
 use Rattle.runs.proofs.Listed.{machine_beside}
-use Rattle.replay.specs.Encoding.{list_in, distant_in, touching_in, call_of, call_at, calls_of, call_count, answer_numbers, put_answers}
+use Rattle.replay.specs.Encoding.{part_of, list_in, distant_in, touching_in, call_of, call_at, calls_of, call_count, answer_numbers, put_answers}
 use Rattle.replay.specs.Replay.{Outcome, played, refused as not_played, outcome, replayed, replayed_matrix, replayed_lists, replayed_answers}
 
 -- ---- calls and answers, one more
@@ -261,17 +267,27 @@ pub touching_in_lem : (pool : List Float) (call : List ℕ) (w a b k s t : List 
 unfolding touching_in
 touching_in_lem pool call w a b k s t ew ea eb ek es et = rw (ew, ea, eb, ek, es, et)
 
--- the eleven numbers of call k
-pub call_long : (calls : List ℕ) (k : ℕ) → 11 * k + 11 ≤ length calls → length (take ((11 * k + 11) - 11 * k) (drop (11 * k) calls)) ≡ 11
-call_long calls k h =
-    let size : (11 * k + 11) - 11 * k ≡ 11 = omega arith in
-    rw size (simp (length-take, length-drop) (omega arith))
+-- part of a pool, as `get` and `unwrap_or` answer it
+pub part_got : (pool : List Float) (a e : ℕ) (got : Option (Bor (List Float))) (none : Bor (List Float)) → none.now ≡ [] → IsGetRangeResult pool a e got
+    → (unwrap_or got none).now ≡ part_of pool a e
+unfolding part_of ◌and◌
+part_got pool a e None none n h = n ∙ ⊎_elim (λ (l : e < a). rw (lt-leb a e l) refl) (λ (l : length pool < e). out (leb a e) l) h.0
+  where
+    out : (b : Bool) → length pool < e → [] ≡ cond (b and leb e (length pool)) (take (e - a) (drop a pool)) []
+    out true l = rw (lt-leb e (length pool) l) refl
+    out false l = refl
+part_got pool a e (Some x) none n h = rw (le-leb a e h.0.0, le-leb e (length pool) h.0.1) h.0.2
 
-pub call_is : (calls : List ℕ) (pool : List Float) (k : ℕ) → call_of pool (take ((11 * k + 11) - 11 * k) (drop (11 * k) calls)) ≡ call_at calls pool k
+-- the first numbers, as `first_chunk` and `unwrap` answer them
+pub chunk_got : (xs : List ℕ) (n : ℕ) {got : Option (Bor (List ℕ))} {x : Bor (List ℕ)} → got ≡ Some x → MatchOption got (length xs < n) (λ y. IsFirstChunk xs y.now n)
+    → x.now ≡ take n xs
+chunk_got xs n e h = (rw e at h).same
+
+-- the eleven numbers of call k
+pub call_is : (calls : List ℕ) (pool : List Float) (k : ℕ) {numbers : List ℕ} → numbers ≡ take 11 (take (length calls - 11 * k) (drop (11 * k) calls))
+    → call_of pool numbers ≡ call_at calls pool k
 unfolding call_at
-call_is calls pool k =
-    let size : (11 * k + 11) - 11 * k ≡ 11 = omega arith in
-    rw size
+call_is calls pool k e = rw (e, take_all (length calls - 11 * k) (drop (11 * k) calls) (omega (arith, length-drop (11 * k) calls))) refl
 
 -- the kind picks the call
 module _ (pool : List Float) (call : List ℕ) where
@@ -292,21 +308,13 @@ module _ (pool : List Float) (call : List ℕ) where
   call_entries k₀ k₁ k₂ e = rw (ne_eqb (get_or call 0 0) 0 k₀, ne_eqb (get_or call 0 0) 1 k₁, ne_eqb (get_or call 0 0) 2 k₂, e)
 
 -- the calls that there is room for, on a run begun from planning's numbers
-pub finished_begun : (x : Planning) (l l' : Lists) (entries : Bool) (calls : List ℕ) (pool : List Float) (n : ℕ) (p : PlanNumbers) (b : Run) (M : List Float) (e : EntryLists)
-    (A : List ℕ) (r : Run) (M' : List Float) (e' : EntryLists) (A' : List ℕ) → plan x l ≡ ready p → l' ≡ plan_lists x l → n ≡ call_count calls A → b ≡ begun entries p
-    → Going (plan_in x l') (calls_of calls pool n) (standing b M e) A r M' e' A'
+pub finished_begun : (x : Planning) (l l' : Lists) (entries : Bool) (calls : List ℕ) (pool : List Float) (p : PlanNumbers) (b : Run) (M : List Float) (e : EntryLists)
+    (A : List ℕ) (r : Run) (M' : List Float) (e' : EntryLists) (A' : List ℕ) → plan x l ≡ ready p → l' ≡ plan_lists x l → b ≡ begun entries p
+    → Going (plan_in x l') (calls_of calls pool (call_count calls A)) (standing b M e) A r M' e' A'
     → Finished x l entries (calls_of calls pool (call_count calls A)) M e A (played r) M' e' A'
-finished_begun x l l' entries calls pool n p b M e A r M' e' A' z lists count start going =
-    finished_played x l l' entries (calls_of calls pool (call_count calls A)) p M e A r M' e' A' z lists (omega (arith, length_calls calls pool (call_count calls A), (count_fits calls A).1)) (rw (count, start) at going)
+finished_begun x l l' entries calls pool p b M e A r M' e' A' z lists start going =
+    finished_played x l l' entries (calls_of calls pool (call_count calls A)) p M e A r M' e' A' z lists (omega (arith, length_calls calls pool (call_count calls A), (count_fits calls A).1)) (rw start at going)
 
 -- room for the calls and their answers
 pub count_room : (calls answers : List ℕ) (n : ℕ) → n ≡ call_count calls answers → (11 * n ≤ length calls) × (4 * n ≤ length answers)
 count_room calls answers n e = rw e (count_fits calls answers)
-
--- the parts of the contract
-pub finished_parts : {x : Planning} {l l' : Lists} {entries : Bool} {calls : List Call} {M : List Float} {e : EntryLists} {A : List ℕ}
-    {o : Outcome} {M' : List Float} {e' : EntryLists} {A' : List ℕ}
-    → Finished x l entries calls M e A o M' e' A' → l' ≡ plan_lists x l
-    → (o ≡ replayed x l entries calls M e)
-    × ((M' ≡ replayed_matrix x l entries calls M e) × ((e' ≡ replayed_lists x l entries calls M e) × ((A' ≡ replayed_answers x l entries calls M e A) × (l' ≡ plan_lists x l))))
-finished_parts f lists = (f.answer, (f.matrix, (f.lists, (f.answers, lists))))

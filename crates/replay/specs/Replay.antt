@@ -13,7 +13,8 @@ use Rattle.boundary_assemblers.specs.declared.Run.{Run as TheRun}
 use Rattle.boundary_assemblers.specs.Forms.{run_of}
 use Rattle.replay.specs.declared.Call.{Call as LentCall}
 use Rattle.replay.specs.declared.Call.TheVariants.{Look, AddDistant, AddTouching, AddEntries}
-use Rattle.replay.specs.Encoding.{put_answers}
+use Rattle.replay.specs.declared.Calls.{Calls}
+use Rattle.replay.specs.Encoding.{calls_of, call_count, put_answers}
 
 -- What it answers: the run after the last call, or planning's refusal
 pub data Outcome : Type 0 where
@@ -30,6 +31,10 @@ call_lent Look = looks
 call_lent (AddDistant a) = adds_distant (distant_of a)
 call_lent (AddTouching a) = adds_touching (touching_of a)
 call_lent (AddEntries a) = adds_entries (touching_of a)
+
+-- the calls that are played, where the answers have room for them
+abbrev pub calls_lent : Calls → List ℕ → List Call
+calls_lent calls answers = calls_of calls.numbers.now calls.pool.now (call_count calls.numbers.now answers)
 
 -- 0 is no refusal
 abbrev pub outcome : ℕ → Run → Outcome

@@ -11,8 +11,8 @@ ghost use Rattle.planning.specs.Arguments.{planning_with};
 ghost use Rattle.runs.specs.Runs.{begun, found, accepted, refused as not_accepted};
 ghost use Rattle.refusals.specs.Numbers.{number_of};
 ghost use Rattle.boundary_assemblers.specs.Forms.{run_of, plan_lent, entries_lent, answer_of, SameLists as SameEntries};
-ghost use Rattle.replay.specs.Encoding.{part_of, list_in, distant_in, touching_in, call_of, calls_of, call_count, answer_numbers};
-ghost use Rattle.replay.specs.Replay.{call_lent, outcome_of, replayed, replayed_matrix, replayed_lists, replayed_answers};
+ghost use Rattle.replay.specs.Encoding.{part_of, list_in, distant_in, touching_in, call_of, call_at, calls_of, call_count, answer_numbers};
+ghost use Rattle.replay.specs.Replay.{call_lent, calls_lent, outcome_of, replayed, replayed_matrix, replayed_lists, replayed_answers};
 ghost use Rattle.replay.specs.Laws.{standing, Answered, Going};
 
 use boundary_assemblers::Run;
@@ -37,70 +37,101 @@ enum Call<'a> {
 fn part_of(pool: &[f64], a: usize, e: usize) -> &[f64]
     ensures { result.now ≡ part_of pool.now a e }
 {
-    if a <= e {
-        if e <= pool.len() {
-            return &pool[a..e];
+    pool.get(a..e).unwrap_or(&[])
+}
+
+// The eleven numbers that encode a call, and the pool whose parts are its lists.
+#[derive(Clone, Copy)]
+struct Encoded<'a> {
+    numbers: &'a [usize; 11],
+    pool: &'a [f64],
+}
+
+impl<'a> Encoded<'a> {
+    // List j.
+    fn list(self, j: usize) -> &'a [f64]
+        requires { j < 7 }
+        ensures { result.now ≡ list_in self.entry.pool.now self.entry.numbers.now j }
+    {
+        part_of(self.pool, self.numbers[j + 3], self.numbers[j + 4])
+    }
+
+    // What a distant pair is lent.
+    fn distant(self) -> DistantNumbers<'a>
+        ensures { distant_of result ≡ distant_in self.entry.pool.now self.entry.numbers.now }
+    {
+        DistantNumbers {
+            test: Side {
+                points: self.numbers[1],
+                weights: self.list(0),
+                table: self.list(2),
+                geometry: self.list(5),
+            },
+            trial: Side {
+                points: self.numbers[2],
+                weights: self.list(1),
+                table: self.list(3),
+                geometry: self.list(6),
+            },
+            kernel: self.list(4),
         }
     }
-    &pool[..0]
-}
 
-// List j of a call.
-fn list_in<'a>(pool: &'a [f64], call: &[usize], j: usize) -> &'a [f64]
-    requires { (length call.now ≡ 11) × (j < 7) }
-    ensures { result.now ≡ list_in pool.now call.now j }
-{
-    part_of(pool, call[j + 3], call[j + 4])
-}
+    // What a touching pair is lent.
+    fn touching(self) -> TouchingNumbers<'a>
+        ensures { touching_of result ≡ touching_in self.entry.pool.now self.entry.numbers.now }
+    {
+        TouchingNumbers {
+            points: self.numbers[1],
+            weights: self.list(0),
+            test_table: self.list(1),
+            trial_table: self.list(2),
+            kernel: self.list(3),
+            test_geometry: self.list(4),
+            trial_geometry: self.list(5),
+        }
+    }
 
-// What a distant pair is lent, as the call's numbers encode it.
-fn distant_in<'a>(pool: &'a [f64], call: &[usize]) -> DistantNumbers<'a>
-    requires { length call.now ≡ 11 }
-    ensures { distant_of result ≡ distant_in pool.now call.now }
-{
-    DistantNumbers {
-        test: Side {
-            points: call[1],
-            weights: list_in(pool, call, 0),
-            table: list_in(pool, call, 2),
-            geometry: list_in(pool, call, 5),
-        },
-        trial: Side {
-            points: call[2],
-            weights: list_in(pool, call, 1),
-            table: list_in(pool, call, 3),
-            geometry: list_in(pool, call, 6),
-        },
-        kernel: list_in(pool, call, 4),
+    // The call. (A `match` on its kind's number: what encodes a call are numbers alone.)
+    fn call(self) -> Call<'a>
+        ensures { call_lent result ≡ call_of self.entry.pool.now self.entry.numbers.now }
+    {
+        match self.numbers[0] {
+            0 => Call::Look,
+            1 => Call::AddDistant(self.distant()),
+            2 => Call::AddTouching(self.touching()),
+            _ => Call::AddEntries(self.touching()),
+        }
     }
 }
 
-// What a touching pair is lent, as the call's numbers encode it.
-fn touching_in<'a>(pool: &'a [f64], call: &[usize]) -> TouchingNumbers<'a>
-    requires { length call.now ≡ 11 }
-    ensures { touching_of result ≡ touching_in pool.now call.now }
-{
-    TouchingNumbers {
-        points: call[1],
-        weights: list_in(pool, call, 0),
-        test_table: list_in(pool, call, 1),
-        trial_table: list_in(pool, call, 2),
-        kernel: list_in(pool, call, 3),
-        test_geometry: list_in(pool, call, 4),
-        trial_geometry: list_in(pool, call, 5),
-    }
+// A list of calls: eleven numbers a call, one call after the other, and the pool whose parts are the lists that they are lent.
+#[derive(Clone, Copy)]
+pub struct Calls<'a> {
+    pub numbers: &'a [usize],
+    pub pool: &'a [f64],
 }
 
-// The call that eleven numbers encode.
-fn call_of<'a>(pool: &'a [f64], call: &[usize]) -> Call<'a>
-    requires { length call.now ≡ 11 }
-    ensures { call_lent result ≡ call_of pool.now call.now }
-{
-    match call[0] {
-        0 => Call::Look,
-        1 => Call::AddDistant(distant_in(pool, call)),
-        2 => Call::AddTouching(touching_in(pool, call)),
-        _ => Call::AddEntries(touching_in(pool, call)),
+impl<'a> Calls<'a> {
+    // Call k.
+    fn call(self, k: usize) -> Call<'a>
+        requires { 11 * k + 11 ≤ length self.numbers.now }
+        ensures { call_lent result ≡ call_at self.entry.numbers.now self.entry.pool.now k }
+    {
+        let numbers = self.numbers[11 * k..].first_chunk().unwrap();
+        let encoded = Encoded {
+            numbers,
+            pool: self.pool,
+        };
+        encoded.call()
+    }
+
+    // How many are played: as many as the numbers encode whole, and no more than there is room to answer.
+    fn count(self, answers: &[u32]) -> usize
+        ensures value { result ≡ call_count self.entry.numbers.now answers.now }
+        ensures room { (11 * result ≤ length self.entry.numbers.now) × (4 * result ≤ length answers.now) }
+    {
+        (self.numbers.len() / 11).min(answers.len() / 4)
     }
 }
 
@@ -163,34 +194,25 @@ impl Call<'_> {
     }
 }
 
-// Plays the first n calls, the first one first; their answers stand one after the other. (k is the place of a call and of its answer.)
+// Plays the calls, as many as there is room to answer; their answers stand one after the other. (k is the place of a call and of its answer. With `zip` and
+// `chunks_exact_mut` nothing is known of the answers after the loop.)
 fn play_calls(
     run: &mut Run,
     plan: Plan,
-    calls: &[usize],
-    pool: &[f64],
-    n: usize,
+    calls: Calls,
     matrix: &mut [f64],
     lists: &mut EntryLists,
     answers: &mut [u32],
 )
-    requires { (11 * n ≤ length calls.now) × (4 * n ≤ length answers.old) }
-    ensures going { Going (plan_lent plan.entry) (calls_of calls.now pool.now n)
+    ensures going { Going (plan_lent plan.entry) (calls_lent calls.entry answers.old)
         (standing (run_of run.old) matrix.old (entries_lent lists.old)) answers.old (run_of run.new) matrix.new (entries_lent lists.new) answers.new }
     ensures same { SameEntries lists.old lists.new }
 {
-    for k in 0..n {
-        let call = call_of(pool, &calls[11 * k..11 * k + 11]);
+    for k in 0..calls.count(answers) {
+        let call = calls.call(k);
         let answer = call.play(run, plan, matrix, lists);
         answers[4 * k..4 * k + 4].copy_from_slice(&answer);
     }
-}
-
-// How many calls are played: as many as the numbers encode whole, and no more than there is room to answer.
-fn call_count(calls: &[usize], answers: &[u32]) -> usize
-    ensures { result ≡ call_count calls.now answers.now }
-{
-    (calls.len() / 11).min(answers.len() / 4)
 }
 
 // A run of either kind.
@@ -210,20 +232,19 @@ pub fn replay(
     assembly: Assembly,
     lists: &mut PlanLists,
     entries: bool,
-    calls: &[usize],
-    pool: &[f64],
+    calls: Calls,
     matrix: &mut [f64],
     entry_lists: &mut EntryLists,
     answers: &mut [u32],
 ) -> Result<Run, Refusal>
     ensures result_value { outcome_of result ≡ replayed (planning_with (mesh_lent mesh.entry) assembly) (lists_lent lists.old) entries
-        (calls_of calls.now pool.now (call_count calls.now answers.old)) matrix.old (entries_lent entry_lists.old) }
+        (calls_lent calls.entry answers.old) matrix.old (entries_lent entry_lists.old) }
     ensures matrix_after { matrix.new ≡ replayed_matrix (planning_with (mesh_lent mesh.entry) assembly) (lists_lent lists.old) entries
-        (calls_of calls.now pool.now (call_count calls.now answers.old)) matrix.old (entries_lent entry_lists.old) }
+        (calls_lent calls.entry answers.old) matrix.old (entries_lent entry_lists.old) }
     ensures values_after { entries_lent entry_lists.new ≡ replayed_lists (planning_with (mesh_lent mesh.entry) assembly) (lists_lent lists.old) entries
-        (calls_of calls.now pool.now (call_count calls.now answers.old)) matrix.old (entries_lent entry_lists.old) }
+        (calls_lent calls.entry answers.old) matrix.old (entries_lent entry_lists.old) }
     ensures answers_after { answers.new ≡ replayed_answers (planning_with (mesh_lent mesh.entry) assembly) (lists_lent lists.old) entries
-        (calls_of calls.now pool.now (call_count calls.now answers.old)) matrix.old (entries_lent entry_lists.old) answers.old }
+        (calls_lent calls.entry answers.old) matrix.old (entries_lent entry_lists.old) answers.old }
     ensures work_after { lists_lent lists.new ≡ plan_lists (planning_with (mesh_lent mesh.entry) assembly) (lists_lent lists.old) }
     ensures same_lists { SameLists lists.old lists.new }
     ensures same_entries { SameEntries entry_lists.old entry_lists.new }
@@ -231,16 +252,6 @@ pub fn replay(
     let numbers = plan(mesh, assembly, lists)?;
     let written = lists.plan(mesh.kinds);
     let mut run = begin_run(numbers, entries);
-    let n = call_count(calls, answers);
-    play_calls(
-        &mut run,
-        written,
-        calls,
-        pool,
-        n,
-        matrix,
-        entry_lists,
-        answers,
-    );
+    play_calls(&mut run, written, calls, matrix, entry_lists, answers);
     Ok(run)
 }

@@ -9,7 +9,7 @@ mod sparse;
 
 use crate::cases::Case;
 use recorded::{EntryVecs, PlanVecs, Words};
-use replay::replay;
+use replay::{Calls, replay};
 use std::{fs, io};
 
 // What stands in the lists before the calls.
@@ -30,8 +30,10 @@ fn case_agrees(rt: &HostRuntime, words: &mut Words<'_>) -> io::Result<bool> {
         case.assembly,
         &mut lists.lent(),
         case.entries,
-        &case.calls,
-        &case.pool,
+        Calls {
+            numbers: &case.calls,
+            pool: &case.pool,
+        },
         &mut matrix,
         &mut entries.lent(),
         &mut answers,

@@ -1,21 +1,18 @@
 -- See Invariants.antt. Assumes nothing.
 use Rattle.std.proofs.Common.{◌≡◌, ◌*◌, length, arith, refl, ap, ◌∙◌}
 use Rattle.std.proofs.Math.Seq.{sets, length-sets}
-use Rattle.replay.specs.Laws.{calls_none, calls_more, length_calls, going_none, going_more, stepped, stored_is, call_long, call_is, four}
+use Rattle.replay.specs.Laws.{calls_none, calls_more, length_calls, going_none, going_more, stepped, stored_is, four}
 use Rattle.replay.proofs.play_calls.Goals as goal
 
 pub loop-k-init : goal.loop-k-init
 loop-k-init c = (omega arith, refl, record { rows = refl; columns = refl; values = refl }, rw calls_none (going_none _ _ _ _ _))
 
-pub call_of-call-requires : goal.call_of-call-requires
-call_of-call-requires c = call_long c.args.calls.now c.loop-k.k (omega (arith, c.loop-k-test.true))
-
 pub loop-k-preserved : goal.loop-k-preserved
 loop-k-preserved c =
     let inv = c.loop-k.invariant in
-    let step = rw (c.call_of-call.ensures ∙ call_is c.args.calls.now c.args.pool.now c.loop-k.k) at c.play-answer.ensures.answered in
+    let step = rw c.call-call.ensures at c.play-answer.ensures.answered in
     let long : length c.copy_from_slice.new.self ≡ 4 = ap length (c.copy_from_slice.ensures.after ∙ step.answer) ∙ four _ in
-    let stored = stored_is c.loop-k.answers c.copy_from_slice.new.self (4 * c.loop-k.k) (omega (arith, inv.1, c.requires.1, c.loop-k-test.true)) long in
+    let stored = stored_is c.loop-k.answers c.copy_from_slice.new.self (4 * c.loop-k.k) (omega (arith, inv.1, c.count-k-end.ensures.room.1, c.loop-k-test.true)) long in
     let same = c.play-answer.ensures.same in (
       omega (arith, c.loop-k-test.true),
       ap length stored ∙ length-sets c.loop-k.answers (4 * c.loop-k.k) c.copy_from_slice.new.self ∙ inv.1,
@@ -25,5 +22,5 @@ loop-k-preserved c =
 
 pub returns : goal.returns
 returns c =
-    let end : c.loop-k.k ≡ c.args.n = omega arith in
-    record { going = rw end at c.loop-k.invariant.3; same = c.loop-k.invariant.2 }
+    let end : c.loop-k.k ≡ c.count-k-end.result = omega arith in
+    record { going = rw (end, c.count-k-end.ensures.value) at c.loop-k.invariant.3; same = c.loop-k.invariant.2 }

@@ -9,6 +9,6 @@ use Rattle.replay.proofs.play_calls.Given as goal
 
 abbrev pub invariant-loop-k : goal.invariant-loop-k
 invariant-loop-k l =
-    (l.k ≤ l.n) × (length l.answers ≡ length l.initial.answers) × (SameLists l.initial.lists l.lists)
-    × Going (plan_lent l.plan) (calls_of l.calls l.pool l.k) (standing (run_of l.initial.run) l.initial.matrix (entries_lent l.initial.lists)) l.initial.answers
+    (l.k ≤ l.k-end) × (length l.answers ≡ length l.initial.answers) × (SameLists l.initial.lists l.lists)
+    × Going (plan_lent l.plan) (calls_of l.calls.numbers.now l.calls.pool.now l.k) (standing (run_of l.initial.run) l.initial.matrix (entries_lent l.initial.lists)) l.initial.answers
     (run_of l.run) l.matrix (entries_lent l.lists) l.answers

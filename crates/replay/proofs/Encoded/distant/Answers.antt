@@ -1,0 +1,14 @@
+-- `replay::Encoded::distant` meets its contract: the lists in hand are those of the call. Assumes nothing.
+use Rattle.replay.specs.Laws.{distant_in_lem}
+use Rattle.replay.proofs.Encoded.distant.Goals as goal
+
+pub returns : goal.returns
+returns c =
+    distant_in_lem c.args.self.pool.now c.args.self.numbers.now _ _ _ _ _ _ _
+    c.list.ensures
+    c.list-4.ensures
+    c.list-2.ensures
+    c.list-5.ensures
+    c.list-7.ensures
+    c.list-3.ensures
+    c.list-6.ensures
