@@ -1,12 +1,11 @@
 // The checks that every call of a run makes, and look.
-ghost use Rattle.std.specs.Prelude.{◌≡◌, ◌+◌, ◌*◌, ◌≤◌, ◌<◌, length, IfOk};
+ghost use Rattle.std.specs.Prelude.{◌≡◌, ◌+◌, ◌≤◌, ◌<◌, length, IfOk};
 ghost use Rattle.lists.specs.Bool.{every};
 ghost use Rattle.lists.specs.Refusals.{refusal};
 ghost use Rattle.refusals.specs.Numbers.{told};
 ghost use Rattle.numbers.specs.Ranges.{all_below};
 ghost use Rattle.grid.specs.Mesh.{most_cells};
 ghost use Rattle.grid.specs.KindsFacts.{kinds_to};
-ghost use Rattle.function.specs.Elements.{cell_dim};
 ghost use Rattle.runs.specs.Runs.{pairs, begin, begin_entries, ranges_right, counts_right, kinds_fit, plan_right, record_known, state_checks, look};
 ghost use Rattle.boundary_assemblers.specs.Forms.{run_of, plan_lent, looked_of, pair_at, cell_at, dofs_at};
 ghost use Rattle.boundary_assemblers.specs.RunFacts.{read_by21, Matched, Inside};
@@ -20,14 +19,6 @@ use numbers::{all_below, wide};
 use plans::{Plan, PlanNumbers};
 use refusals::Refusal;
 use scatter::LocalMatrix;
-
-// How many local DOFs so many triangles and quads have together. Of elements that hold any u32 the sum fits.
-fn dofs_on(triangles: u32, quads: u32, elements: Elements) -> usize
-    requires { (triangles ≤ most_cells) × (quads ≤ most_cells) }
-    ensures { result ≡ triangles * cell_dim elements 3 + quads * cell_dim elements 4 }
-{
-    wide(triangles) * elements.dim(3) + wide(quads) * elements.dim(4)
-}
 
 // The DOFs of a cell in the DOF list of its side.
 fn cell_dofs(dofs: &[u32], cell: Cell) -> &[u32]
@@ -137,8 +128,8 @@ impl Run {
         ensures { result ≡ plan_right (run_of self.now) (plan_lent plan.entry) }
     {
         let n = self.numbers;
-        let test_places = dofs_on(n.triangles, n.quads, n.test);
-        let trial_places = dofs_on(n.triangles, n.quads, n.trial);
+        let test_places = n.test.places(n.triangles, n.quads);
+        let trial_places = n.trial.places(n.triangles, n.quads);
         (wide(n.rows) <= test_places)
             & (wide(n.columns) <= trial_places)
             & (plan.test_dofs.len() == test_places)
@@ -193,7 +184,7 @@ impl Run {
         let kind = kinds[wide(cell)];
         Cell {
             kind,
-            start: dofs_on(cell - quads, quads, elements),
+            start: elements.places(cell - quads, quads),
             dim: elements.dim(kind),
         }
     }

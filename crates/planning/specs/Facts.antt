@@ -74,16 +74,6 @@ module _ (m : Mesh) (f : Fine m) where
         let each = before_most (cell_dim es) m.kinds most_dim m.cells (λ i h. within_high 1 most_dim _ (dim_within m.cells m.kinds (fine_kinded f) es right i h)) in
         omega (arith, each, mul-le-mul_right most_dim f.few_cells)
 
--- the DOFs of the cells of a kind: none where there are no such cells, whatever the dim
-few_dofs : (n d : ℕ) → n ≤ most_cells → (0 < n → d ≤ most_dim) → n * d ≤ most_cells * most_dim
-few_dofs zero d h small = omega (arith, zero-mul d)
-few_dofs (suc n) d h small = mul-le-mul h (small (omega arith))
-
-pub products : (t q : ℕ) (es : Elements) → elements_right t q es ≡ true → t ≤ most_cells → q ≤ most_cells
-    → (t * cell_dim es 3 ≤ most_cells * most_dim) × (q * cell_dim es 4 ≤ most_cells * most_dim)
-products t q es right ht hq =
-    (few_dofs t _ ht (λ some. within_high 1 most_dim _ (dim_three t q es right some)), few_dofs q _ hq (λ some. within_high 1 most_dim _ (dim_four t q es right some)))
-
 -- 4: both sides
 pub both_right : (t q : ℕ) (test trial : Elements) → dims_right t q test trial ≡ true → (elements_right t q test ≡ true) × (elements_right t q trial ≡ true)
 unfolding dims_right
