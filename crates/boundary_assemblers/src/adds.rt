@@ -73,7 +73,10 @@ impl Run {
         ensures matrix_after { matrix.new ≡ matrix_by L.is_taken (λ m n. L.checks self.old.numbers.integrand m n lent) (L.entry self.old.numbers.integrand lent) (run_of self.old) (plan_lent plan.entry) matrix.old }
         ensures refused { OnErr result ((self.new ≡ self.old) × (matrix.new ≡ matrix.old)) }
     {
-        let pair = self.state_checked(plan, self.matrix_right(matrix))?;
+        if !self.matrix_right(matrix) {
+            return Err(Refusal::Run);
+        }
+        let pair = self.state_checked(plan)?;
         if !(L::is_taken(pair.item.pattern) & !self.entries) {
             return Err(Refusal::Kind);
         }

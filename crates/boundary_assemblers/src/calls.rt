@@ -1,5 +1,5 @@
 // The checks that every call of a run makes, and look.
-ghost use Rattle.std.specs.Prelude.{◌≡◌, ◌+◌, ◌≤◌, ◌<◌, length, IfOk};
+ghost use Rattle.std.specs.Prelude.{◌≡◌, ◌+◌, ◌≤◌, ◌<◌, true, length, IfOk};
 ghost use Rattle.lists.specs.Bool.{every};
 ghost use Rattle.lists.specs.Refusals.{refusal};
 ghost use Rattle.refusals.specs.Numbers.{told};
@@ -137,9 +137,9 @@ impl Run {
             & (plan.work.len() == WIDTH * self.pair_count())
     }
 
-    // 21, of all that it reads. `sized`: what is lent beside the plan has its length.
-    fn run_right(&self, plan: Plan, sized: bool) -> bool
-        ensures { result ≡ every (read_by21 (run_of self.now) (plan_lent plan.entry) sized) }
+    // 21, of the run and the plan.
+    fn run_right(&self, plan: Plan) -> bool
+        ensures { result ≡ every (read_by21 (run_of self.now) (plan_lent plan.entry) true) }
     {
         if !self.ranges_right() {
             return false;
@@ -147,7 +147,7 @@ impl Run {
         if !self.kinds_fit(plan) {
             return false;
         }
-        self.counts_right() & self.plan_right(plan) & sized
+        self.counts_right() & self.plan_right(plan)
     }
 
     // How many of the cells before a cell are quads. Cells of one kind are not counted.
@@ -189,12 +189,12 @@ impl Run {
         }
     }
 
-    // 21, 20, 22, which every call checks, then record p and its cells. `sized`: what is lent beside the plan has its length.
-    pub(crate) fn state_checked(&self, plan: Plan, sized: bool) -> Result<Pair, Refusal>
-        ensures refusal { told result ≡ refusal (state_checks (run_of self.now) (plan_lent plan.entry) sized) }
+    // 21, 20, 22, which every call checks, then record p and its cells. (A call that is lent more than the plan checks the length of that first: it is 21 too.)
+    pub(crate) fn state_checked(&self, plan: Plan) -> Result<Pair, Refusal>
+        ensures refusal { told result ≡ refusal (state_checks (run_of self.now) (plan_lent plan.entry) true) }
         ensures pair { IfOk result (λ e. e ≡ pair_at (run_of self.now) (plan_lent plan.entry)) }
     {
-        if !self.run_right(plan, sized) {
+        if !self.run_right(plan) {
             return Err(Refusal::Run);
         }
         if wide(self.position) == self.pair_count() {
@@ -223,7 +223,7 @@ impl Run {
     fn record(&self, plan: Plan) -> Result<WorkRecord, Refusal>
         ensures { looked_of (self.now, result) ≡ look (run_of self.now) (plan_lent plan.entry) }
     {
-        let pair = self.state_checked(plan, true)?;
+        let pair = self.state_checked(plan)?;
         Ok(pair.item)
     }
 

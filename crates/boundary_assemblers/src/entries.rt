@@ -128,7 +128,10 @@ impl Run {
         ensures refused { OnErr result ((self.new ≡ self.old) × (entries_lent lists.new ≡ entries_lent lists.old)) }
         ensures same { SameLists lists.old lists.new }
     {
-        let pair = self.state_checked(plan, self.entries_right(lists))?;
+        if !self.entries_right(lists) {
+            return Err(Refusal::Run);
+        }
+        let pair = self.state_checked(plan)?;
         if !self.kinds_put(pair.test, pair.trial) {
             return Err(Refusal::Record);
         }

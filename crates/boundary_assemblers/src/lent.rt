@@ -57,20 +57,17 @@ impl LentNumbers for TouchingNumbers<'_> {
         pattern < NO_PATTERN
     }
 
-    fn checked(self, f: Integrand, test_dim: usize, trial_dim: usize) -> Result<(), Refusal>
-        requires { (test_dim ≤ most_dim) × (trial_dim ≤ most_dim) }
-        ensures { told result ≡ refusal (touching_checks f test_dim trial_dim (touching_of self.entry)) }
-    {
+    fn checked(self, f: Integrand, test_dim: usize, trial_dim: usize) -> Result<(), Refusal> {
         self.check(f, test_dim, trial_dim)
     }
 
-    fn write_matrix(self, f: Integrand, test_dim: usize, trial_dim: usize, entries: &mut [f64; 100])
-        requires right { integrand_right f ≡ true }
-        requires few { (test_dim ≤ most_dim) × (trial_dim ≤ most_dim) }
-        requires passes { refusal (touching_checks f test_dim trial_dim (touching_of self)) ≡ 0 }
-        requires zeros { entries.old ≡ replicate 100 0·0 }
-        ensures { Held test_dim trial_dim entries.new (touching_entry f (touching_of self.entry)) }
-    {
+    fn write_matrix(
+        self,
+        f: Integrand,
+        test_dim: usize,
+        trial_dim: usize,
+        entries: &mut [f64; 100],
+    ) {
         touching_matrix(entries, f, test_dim, trial_dim, self);
     }
 }
@@ -88,20 +85,17 @@ impl LentNumbers for DistantNumbers<'_> {
         pattern == DISTANT
     }
 
-    fn checked(self, f: Integrand, test_dim: usize, trial_dim: usize) -> Result<(), Refusal>
-        requires { (test_dim ≤ most_dim) × (trial_dim ≤ most_dim) }
-        ensures { told result ≡ refusal (distant_checks f test_dim trial_dim (distant_of self.entry)) }
-    {
+    fn checked(self, f: Integrand, test_dim: usize, trial_dim: usize) -> Result<(), Refusal> {
         self.check(f, test_dim, trial_dim)
     }
 
-    fn write_matrix(self, f: Integrand, test_dim: usize, trial_dim: usize, entries: &mut [f64; 100])
-        requires right { integrand_right f ≡ true }
-        requires few { (test_dim ≤ most_dim) × (trial_dim ≤ most_dim) }
-        requires passes { refusal (distant_checks f test_dim trial_dim (distant_of self)) ≡ 0 }
-        requires zeros { entries.old ≡ replicate 100 0·0 }
-        ensures { Held test_dim trial_dim entries.new (distant_entry f (distant_of self.entry)) }
-    {
+    fn write_matrix(
+        self,
+        f: Integrand,
+        test_dim: usize,
+        trial_dim: usize,
+        entries: &mut [f64; 100],
+    ) {
         distant_matrix(entries, f, test_dim, trial_dim, self);
     }
 }
