@@ -17,7 +17,7 @@ use refusals::Refusal;
 
 // A term: `scaled` is 0 for a bare one, whose factor is not read, and any other number for one that carries the factor.
 #[repr(C)]
-#[derive(Clone, Copy)]
+#[derive(Clone, Copy, Default)]
 pub struct CTerm {
     pub scaled: u32,
     pub kind: u32,
@@ -26,7 +26,7 @@ pub struct CTerm {
 
 // One or two terms. Where the count is 1 the second is not read.
 #[repr(C)]
-#[derive(Clone, Copy)]
+#[derive(Clone, Copy, Default)]
 pub struct CIntegrand {
     pub terms: u32,
     pub first: CTerm,
@@ -35,7 +35,7 @@ pub struct CIntegrand {
 
 // The numbers that planning hands back.
 #[repr(C)]
-#[derive(Clone, Copy)]
+#[derive(Clone, Copy, Default)]
 pub struct CNumbers {
     pub cells: u32,
     pub vertices: u32,
@@ -197,30 +197,15 @@ fn c_numbers(test: Elements, trial: Elements, f: CIntegrand, n: PlanNumbers) -> 
     }
 }
 
-// What stands in their place where planning refuses. (The elements and the integrand are the host's, so that no default of the whole serves, and the definition
-// says each zero.)
+// What stands in their place where planning refuses: no cell.
 fn no_numbers(test: Elements, trial: Elements, f: CIntegrand) -> CNumbers
     ensures { result ≡ no_numbers test trial f }
 {
     CNumbers {
-        cells: 0,
-        vertices: 0,
-        edges: 0,
-        triangles: 0,
-        quads: 0,
-        touching: 0,
-        distant: 0,
-        pairs: KindPairs {
-            triangle_triangle: 0,
-            triangle_quad: 0,
-            quad_triangle: 0,
-            quad_quad: 0,
-        },
-        rows: 0,
-        columns: 0,
         test,
         trial,
         integrand: f,
+        ..CNumbers::default()
     }
 }
 

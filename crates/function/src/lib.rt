@@ -18,7 +18,7 @@ pub const MOST_DIM: usize = 10;
 
 // DOFs per vertex (a), per edge (b) and per cell (c).
 #[repr(C)]
-#[derive(Clone, Copy)]
+#[derive(Clone, Copy, Default)]
 pub struct Element {
     pub a: u32,
     pub b: u32,
@@ -44,7 +44,7 @@ fn is_dim(n: usize) -> bool
 
 // An element for each kind of cell. (A kind is a byte, as in the list that C lends.)
 #[repr(C)]
-#[derive(Clone, Copy)]
+#[derive(Clone, Copy, Default)]
 pub struct Elements {
     pub triangle: Element,
     pub quad: Element,
