@@ -19,6 +19,28 @@ const MOST_TOUCHING_POINTS: usize = 2048;
 
 const MOST_DISTANT_POINTS: usize = 64;
 
+// What a local matrix is of: the integrand, and how many basis functions the test cell and the trial cell have.
+#[derive(Clone, Copy)]
+pub struct LocalForm {
+    pub integrand: Integrand,
+    pub test_dim: usize,
+    pub trial_dim: usize,
+}
+
+impl LocalForm {
+    // The same integrand, for so many basis functions.
+    #[inline(always)]
+    pub fn with_dims(self, test_dim: usize, trial_dim: usize) -> LocalForm
+        ensures { (result.integrand ≡ self.integrand) × (result.test_dim ≡ test_dim) × (result.trial_dim ≡ trial_dim) }
+    {
+        LocalForm {
+            test_dim,
+            trial_dim,
+            ..self
+        }
+    }
+}
+
 // What one side of a pair is lent: its points and their weights, the table of its basis functions and the geometry of its cell.
 #[derive(Clone, Copy)]
 pub struct Side<'a> {
@@ -125,14 +147,14 @@ impl<'a> TouchingNumbers<'a> {
     }
 
     // Check 10.
-    fn lengths_right(self, f: Integrand, test_dim: usize, trial_dim: usize) -> bool
-        requires { (test_dim ≤ most_dim) × (trial_dim ≤ most_dim) × (self.points ≤ most_touching_points) }
-        ensures { result ≡ touching_lengths f test_dim trial_dim (touching_of self.entry) }
+    fn lengths_right(self, local: LocalForm) -> bool
+        requires { (local.test_dim ≤ most_dim) × (local.trial_dim ≤ most_dim) × (self.points ≤ most_touching_points) }
+        ensures { result ≡ touching_lengths local.integrand local.test_dim local.trial_dim (touching_of self.entry) }
     {
-        let rows = integrands::table_rows(f);
-        let width = integrands::kernel_width(f);
-        self.test().lengths_right(rows, test_dim)
-            & self.trial().lengths_right(rows, trial_dim)
+        let rows = integrands::table_rows(local.integrand);
+        let width = integrands::kernel_width(local.integrand);
+        self.test().lengths_right(rows, local.test_dim)
+            & self.trial().lengths_right(rows, local.trial_dim)
             & (self.kernel.len() == width * self.points)
     }
 
@@ -149,14 +171,14 @@ impl<'a> TouchingNumbers<'a> {
 
     // Checks 9 to 11: the first that turns the pair down, if any.
     // Written for both sorts of pair: each of the three steps is another, and a trait of the three with their clauses is longer than what both share.
-    pub fn check(self, f: Integrand, test_dim: usize, trial_dim: usize) -> Result<(), Refusal>
-        requires { (test_dim ≤ most_dim) × (trial_dim ≤ most_dim) }
-        ensures { told result ≡ refusal (touching_checks f test_dim trial_dim (touching_of self.entry)) }
+    pub fn check(self, local: LocalForm) -> Result<(), Refusal>
+        requires { (local.test_dim ≤ most_dim) × (local.trial_dim ≤ most_dim) }
+        ensures { told result ≡ refusal (touching_checks local.integrand local.test_dim local.trial_dim (touching_of self.entry)) }
     {
         if !count_right(self.points, MOST_TOUCHING_POINTS) {
             return Err(Refusal::PointCount);
         }
-        if !self.lengths_right(f, test_dim, trial_dim) {
+        if !self.lengths_right(local) {
             return Err(Refusal::LentLength);
         }
         if !self.numbers_right() {
@@ -168,14 +190,14 @@ impl<'a> TouchingNumbers<'a> {
 
 impl<'a> DistantNumbers<'a> {
     // Check 10.
-    fn lengths_right(self, f: Integrand, test_dim: usize, trial_dim: usize) -> bool
-        requires { (test_dim ≤ most_dim) × (trial_dim ≤ most_dim) × (self.test.points ≤ most_distant_points) × (self.trial.points ≤ most_distant_points) }
-        ensures { result ≡ distant_lengths f test_dim trial_dim (distant_of self.entry) }
+    fn lengths_right(self, local: LocalForm) -> bool
+        requires { (local.test_dim ≤ most_dim) × (local.trial_dim ≤ most_dim) × (self.test.points ≤ most_distant_points) × (self.trial.points ≤ most_distant_points) }
+        ensures { result ≡ distant_lengths local.integrand local.test_dim local.trial_dim (distant_of self.entry) }
     {
-        let rows = integrands::table_rows(f);
-        let width = integrands::kernel_width(f);
-        self.test.lengths_right(rows, test_dim)
-            & self.trial.lengths_right(rows, trial_dim)
+        let rows = integrands::table_rows(local.integrand);
+        let width = integrands::kernel_width(local.integrand);
+        self.test.lengths_right(rows, local.test_dim)
+            & self.trial.lengths_right(rows, local.trial_dim)
             & (self.kernel.len() == width * (self.test.points * self.trial.points))
     }
 
@@ -192,16 +214,16 @@ impl<'a> DistantNumbers<'a> {
     }
 
     // Checks 9 to 11: the first that turns the pair down, if any.
-    pub fn check(self, f: Integrand, test_dim: usize, trial_dim: usize) -> Result<(), Refusal>
-        requires { (test_dim ≤ most_dim) × (trial_dim ≤ most_dim) }
-        ensures { told result ≡ refusal (distant_checks f test_dim trial_dim (distant_of self.entry)) }
+    pub fn check(self, local: LocalForm) -> Result<(), Refusal>
+        requires { (local.test_dim ≤ most_dim) × (local.trial_dim ≤ most_dim) }
+        ensures { told result ≡ refusal (distant_checks local.integrand local.test_dim local.trial_dim (distant_of self.entry)) }
     {
         if !(count_right(self.test.points, MOST_DISTANT_POINTS)
             & count_right(self.trial.points, MOST_DISTANT_POINTS))
         {
             return Err(Refusal::PointCount);
         }
-        if !self.lengths_right(f, test_dim, trial_dim) {
+        if !self.lengths_right(local) {
             return Err(Refusal::LentLength);
         }
         if !self.numbers_right() {
