@@ -6,8 +6,8 @@ ghost use Rattle.std.specs.Prelude.{◌≡◌, ℕ, ◌+◌, ◌*◌, ◌<◌, �
 ghost use Rattle.lists.specs.Refusals.{refusal};
 ghost use Rattle.refusals.specs.Numbers.{told};
 ghost use Rattle.numbers.specs.Ranges.{within};
-ghost use Rattle.lent_numbers.specs.Lent.{most_touching_points, most_distant_points, jdets_above0, touching_lengths, touching_numbers, touching_checks, distant_lengths, distant_numbers, distant_checks};
-ghost use Rattle.lent_numbers.specs.Forms.{touching_of, distant_of, test_of, trial_of, point_of, side_lengths, side_numbers};
+ghost use Rattle.lent_numbers.specs.Lent.{most_touching_points, most_distant_points, most_point_pairs, jdets_above0, touching_lengths, touching_numbers, touching_checks, distant_lengths, distant_numbers, distant_checks};
+ghost use Rattle.lent_numbers.specs.Forms.{touching_of, distant_of, test_of, trial_of, point_of, side_lengths, side_numbers, pair_lengths};
 
 use integrands::{Integrand, Point};
 use numbers::all_finite;
@@ -90,6 +90,24 @@ fn jdets_above_0(s: &[f64], points: usize) -> bool
     ok
 }
 
+// Check 10 of a pair: that of both sides, and one point's kernel values for each of so many points.
+fn pair_lengths_right(
+    local: LocalForm,
+    test: Side,
+    trial: Side,
+    kernel: &[f64],
+    points: usize,
+) -> bool
+    requires { (local.test_dim ≤ most_dim) × (local.trial_dim ≤ most_dim) × (test.points ≤ most_touching_points) × (trial.points ≤ most_touching_points) × (points ≤ most_point_pairs) }
+    ensures { result ≡ pair_lengths local test.entry trial.entry kernel.now points }
+{
+    let rows = integrands::table_rows(local.integrand);
+    let width = integrands::kernel_width(local.integrand);
+    test.lengths_right(rows, local.test_dim)
+        & trial.lengths_right(rows, local.trial_dim)
+        & (kernel.len() == width * points)
+}
+
 impl<'a> Side<'a> {
     // A point, with so many table rows and basis functions.
     pub fn at(self, rows: usize, dim: usize, point: usize) -> Point<'a>
@@ -151,11 +169,7 @@ impl<'a> TouchingNumbers<'a> {
         requires { (local.test_dim ≤ most_dim) × (local.trial_dim ≤ most_dim) × (self.points ≤ most_touching_points) }
         ensures { result ≡ touching_lengths local.integrand local.test_dim local.trial_dim (touching_of self.entry) }
     {
-        let rows = integrands::table_rows(local.integrand);
-        let width = integrands::kernel_width(local.integrand);
-        self.test().lengths_right(rows, local.test_dim)
-            & self.trial().lengths_right(rows, local.trial_dim)
-            & (self.kernel.len() == width * self.points)
+        pair_lengths_right(local, self.test(), self.trial(), self.kernel, self.points)
     }
 
     // Check 11.
@@ -194,11 +208,8 @@ impl<'a> DistantNumbers<'a> {
         requires { (local.test_dim ≤ most_dim) × (local.trial_dim ≤ most_dim) × (self.test.points ≤ most_distant_points) × (self.trial.points ≤ most_distant_points) }
         ensures { result ≡ distant_lengths local.integrand local.test_dim local.trial_dim (distant_of self.entry) }
     {
-        let rows = integrands::table_rows(local.integrand);
-        let width = integrands::kernel_width(local.integrand);
-        self.test.lengths_right(rows, local.test_dim)
-            & self.trial.lengths_right(rows, local.trial_dim)
-            & (self.kernel.len() == width * (self.test.points * self.trial.points))
+        let points = self.test.points * self.trial.points;
+        pair_lengths_right(local, self.test, self.trial, self.kernel, points)
     }
 
     // Check 11.

@@ -61,6 +61,7 @@ pub struct Parts {
     x2: [f64; MOST_DIM],
 }
 
+// Room for ten, of which as many are filled as there are basis functions: nothing is allocated. So too `scaled` and `more` below.
 const NO_PARTS: Parts = Parts {
     x0: [0.0; MOST_DIM],
     x1: [0.0; MOST_DIM],
@@ -82,7 +83,7 @@ impl Parts {
 }
 
 // Adds value·w·v to each entry. The value at test basis i and trial basis j is `value(i, t)`, where t is what trial basis j brings.
-// Inlined, as its callers are: a call at each point takes two to three times as long.
+// Inlined, as its callers are: a call at each point takes two to three times as long. By number, as i and j are what the closures are asked for.
 #[inline(always)]
 fn add_values<T: Copy, B: Fn(usize) -> T, V: Fn(usize, T) -> f64>(
     entries: &mut [f64; 100],
@@ -107,7 +108,7 @@ fn add_values<T: Copy, B: Fn(usize) -> T, V: Fn(usize, T) -> f64>(
     }
 }
 
-// c times row 0 of each basis function.
+// c times row 0 of each basis function. By number, as the table is read by it, here and in `bring_parts`: with `iter_mut` and `enumerate` it is there as well.
 #[inline(always)]
 fn scale_rows(scaled: &mut [f64; MOST_DIM], c: f64, table: Table)
     requires { (length scaled.old ≡ most_dim) × Covers table }
@@ -256,6 +257,7 @@ pub trait AddPoint {
 pub trait Form: Copy {
     ghost term: { Self → ℕ → Term };
 
+    // The kind is a number, as it is in `Term`.
     fn term(&self, kind: u32) -> Term
         ensures { result ≡ term self.now kind };
 }
@@ -314,7 +316,7 @@ impl<F: Form> AddPoint for Outer<F> {
     }
 }
 
-// One term with curls.
+// One term with curls. (`add` begins as that of `Outer`: a function for the beginning would answer both the term and its value, to spare two lines.)
 #[derive(Clone, Copy)]
 pub struct Curls<F> {
     pub integrand: Integrand,
@@ -374,7 +376,7 @@ impl AddPoint for Outers {
     }
 }
 
-// Two terms, of which one has curls or both have.
+// Two terms, of which one has curls or both have. (`add` begins as that of `Outers`, and what they share is a read of each term and its value.)
 #[derive(Clone, Copy)]
 pub struct Two {
     pub integrand: Integrand,
