@@ -17,7 +17,7 @@ ghost use Rattle.boundary_assemblers.specs.AddFacts.{added_by, matrix_by};
 use crate::calls::local_matrix;
 use crate::lent::LentNumbers;
 use crate::{Pair, Run};
-use lent_numbers::{DistantNumbers, TouchingNumbers};
+use lent_numbers::{DistantNumbers, LocalForm, TouchingNumbers};
 use numbers::wide;
 use plans::Plan;
 use refusals::Refusal;
@@ -56,9 +56,13 @@ impl Run {
         ensures refusal { told result ≡ refusal (L.checks self.now.numbers.integrand pair.test.dim pair.trial.dim lent) }
         ensures held { OnOk result (Held pair.test.dim pair.trial.dim entries.new (L.entry self.now.numbers.integrand lent)) }
     {
-        let integrand = self.numbers.integrand;
-        lent.checked(integrand, pair.test.dim, pair.trial.dim)?;
-        lent.write_matrix(integrand, pair.test.dim, pair.trial.dim, entries);
+        let local = LocalForm {
+            integrand: self.numbers.integrand,
+            test_dim: pair.test.dim,
+            trial_dim: pair.trial.dim,
+        };
+        lent.checked(local)?;
+        lent.write_matrix(local, entries);
         Ok(())
     }
 
