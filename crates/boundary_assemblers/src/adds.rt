@@ -84,6 +84,7 @@ impl Run {
         if !(L::is_taken(pair.item.pattern) & !self.entries) {
             return Err(Refusal::Kind);
         }
+        // nothing is allocated: a local matrix has at most 10 by 10 entries
         let mut entries = [0.0; 100];
         self.write_local(pair, lent, &mut entries)?;
         self.add_matrix(plan, pair, &entries, matrix);
@@ -92,7 +93,7 @@ impl Run {
     }
 
     // Adds the local matrix of a touching pair, and hands the run back. Checks 21, 20, 22, 23, then 9 to 11. A refused call leaves the run and the matrix as they
-    // were.
+    // were. (It differs from `add_distant` in what it is lent; the work of both, but for two lines, is done by `add`.)
     pub fn add_touching(
         mut self,
         plan: Plan,

@@ -17,7 +17,7 @@ use cell_pairs::{DISTANT, NO_PATTERN};
 use lent_numbers::{DistantNumbers, LocalForm, TouchingNumbers};
 use refusals::Refusal;
 
-// Which records take it, its checks 9 to 11, and its local entries.
+// Which records take it, its checks 9 to 11, and its local entries. (Its two implementations hand on to one function each, of another crate, by three lines.)
 pub(crate) trait LentNumbers: Copy {
     ghost is_taken: { ℕ → Bool };
 

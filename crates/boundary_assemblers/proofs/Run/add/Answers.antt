@@ -1,6 +1,6 @@
 -- `boundary_assemblers::Run::add` meets its contract: a refusal is answered as such, and nothing is written; where there is none, the local matrix is added.
 -- Assumes nothing.
-use Rattle.std.proofs.Common.{ℕ, arith, refl, sym, ap}
+use Rattle.std.proofs.Common.{ℕ, arith, refl, ap}
 use Rattle.std.specs.Prelude.{Bool, not}
 use Rattle.std.proofs.lemmas.Result.{err_from_is_err_and}
 use Rattle.lists.specs.Bool.{◌and◌, turned, passed}

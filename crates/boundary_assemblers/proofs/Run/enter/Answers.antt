@@ -1,6 +1,6 @@
 -- `boundary_assemblers::Run::enter` meets its contract: a refusal is answered as such, and nothing is written; where there is none, the entries are written.
 -- Assumes nothing.
-use Rattle.std.proofs.Common.{arith, refl, sym, ap, ◌∙◌}
+use Rattle.std.proofs.Common.{arith, refl, ap, ◌∙◌}
 use Rattle.std.specs.Prelude.{Bool, true, false, not, ◌≡◌}
 use Rattle.std.proofs.lemmas.Result.{err_from_is_err_and}
 use Rattle.lists.specs.Bool.{◌and◌, and_right, turned, passed}
