@@ -15,7 +15,8 @@ use integrands::{Integrand, Term};
 use plans::{KindPairs, PlanNumbers};
 use refusals::Refusal;
 
-// A term: `scaled` is 0 for a bare one, whose factor is not read, and any other number for one that carries the factor.
+// A term: `scaled` is 0 for a bare one, whose factor is not read, and any other number for one that carries the factor. The kind is a number, as a host hands it
+// over.
 #[repr(C)]
 #[derive(Clone, Copy, Default)]
 pub struct CTerm {
@@ -33,7 +34,8 @@ pub struct CIntegrand {
     pub second: CTerm,
 }
 
-// The numbers that planning hands back.
+// The numbers that planning hands back. (The fields are those of the header; they are named twice more below, there and back, since the integrand is of another
+// type there, and one struct is not taken over from another in part.)
 #[repr(C)]
 #[derive(Clone, Copy, Default)]
 pub struct CNumbers {
@@ -174,7 +176,7 @@ impl From<CRun> for Run {
     }
 }
 
-// ---- the C forms of what the calls answer
+// ---- the C forms of what the calls answer, set field by field: most go together with what the host gave, which a `From` of the answer alone has not
 
 // Planning's numbers, with the elements, of both kinds whether present or not, and the integrand that the host gave.
 fn c_numbers(test: Elements, trial: Elements, f: CIntegrand, n: PlanNumbers) -> CNumbers

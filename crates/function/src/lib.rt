@@ -26,7 +26,7 @@ pub struct Element {
 }
 
 impl Element {
-    // The local DOFs of a cell of a kind, which has so many vertices and edges. Of any three u32 the sum fits.
+    // The local DOFs of a cell of a kind, which has so many vertices and edges: the number is the byte of the kind. Of any three u32 the sum fits.
     pub fn dim(self, kind: u8) -> usize
         ensures { result ≡ dim_of self kind }
     {

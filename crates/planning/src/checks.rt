@@ -52,6 +52,7 @@ fn cells_right(mesh: Mesh) -> bool
     requires { Fine (mesh_lent mesh) }
     ensures { result ≡ patterns_right (mesh_lent mesh.entry) }
 {
+    // nothing is allocated: room for the rows of the most cells
     let mut rows = [0u32; 4 * MOST_CELLS];
     let rows = &mut rows[..4 * wide(mesh.sizes.cells)];
     write_rows(mesh.kinds, mesh.cell_vertices, mesh.sizes.vertices, rows);

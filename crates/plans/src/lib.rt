@@ -45,8 +45,8 @@ pub struct Plan<'a> {
     pub work: &'a [u32],
 }
 
-// The lists that planning is lent to write: each side has its own DOF, colour and owner list. (A struct of the three, twice, was tried: the borrow checker does not
-// cover structs in a struct whose lists C lends one by one, as `seivalto_plan` has them.)
+// The lists that planning is lent to write: each side has its own DOF, colour and owner list. (A struct of the three, twice, was tried: the borrow checker does
+// not cover structs in a struct whose lists C lends one by one, as `seivalto_plan` has them.)
 #[derive(Drop)]
 pub struct PlanLists<'a> {
     pub test_dofs: &'a mut [u32],
