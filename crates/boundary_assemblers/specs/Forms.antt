@@ -1,5 +1,5 @@
 -- What the program's structs and answers stand for: of each answer the paper's, and the run that is handed back. Assumes nothing.
-use Rattle.std.specs.Prelude.{ℕ, ◌≡◌, List, get_or, take, drop, Result, Ok, Err, ⊤}
+use Rattle.std.specs.Prelude.{ℕ, List, get_or, take, drop, Result, Ok, Err, ⊤}
 use Rattle.refusals.specs.declared.Refusal.{Refusal}
 use Rattle.refusals.specs.Numbers.{number_of}
 use Rattle.grid.specs.Cells.{before}
@@ -22,12 +22,6 @@ plan_lent p = plan_of p.kinds.now p.test_dofs.now p.trial_dofs.now p.work.now
 
 abbrev pub entries_lent : EntryLists → Runs.EntryLists
 entries_lent l = entry_lists l.rows.now l.columns.now l.values.now
-
--- the lists are lent as they were: what is written stands in the lender's own
-pub record SameLists (old new : EntryLists) : Type 0 where
-  pub rows : new.rows.ghost_name ≡ old.rows.ghost_name
-  pub columns : new.columns.ghost_name ≡ old.columns.ghost_name
-  pub values : new.values.ghost_name ≡ old.values.ghost_name
 
 -- an answer, of which `accepts` says what a call that is not turned down answers
 abbrev pub answer_of : {A : Type 0} → (A → Answer) → Result A Refusal → Answer

@@ -4,7 +4,7 @@ use Rattle.std.proofs.Common.{mul-le-mul, arith, sym, ◌∙◌, ⊎_elim, leb-t
 use Rattle.std.proofs.Math.Path.{ap}
 use Rattle.std.proofs.Math.Bool.{not}
 use Rattle.std.proofs.lemmas.Bool.{eqb-false, not-true}
-use Rattle.lists.specs.Bool.{◌and◌, every, every_at, ◌or◌, and_left, and_right, and_no_left, or_cases, true≢false}
+use Rattle.lists.specs.Bool.{◌and◌, every, every_at, every_fails, ◌or◌, and_left, and_right, and_no_left, or_cases, true≢false}
 use Rattle.lists.specs.Total.{gate}
 use Rattle.lists.specs.Refusals.{refusal, refusal_at, answers, accepted, refused as fails, ◌then◌}
 use Rattle.refusals.specs.declared.Refusal.{Refusal}
@@ -201,14 +201,15 @@ second_answers e g = rw e g
 abbrev pub read_by21 : Run → Plan → Bool → List Bool
 read_by21 r l sized = ranges_right r ∷ counts_right r ∷ kinds_fit r l ∷ plan_right r l ∷ sized ∷ []
 
--- by the three that are read where the first and the third pass
-pub all_read : (a b c d e : Bool) {x : Bool} → a ≡ true → c ≡ true → x ≡ (b and d and e) → x ≡ every (a ∷ b ∷ c ∷ d ∷ e ∷ [])
+-- by the two that are read where the first and the third pass
+pub all_read : (a b c d : Bool) {x : Bool} → a ≡ true → c ≡ true → x ≡ (b and d) → x ≡ every (a ∷ b ∷ c ∷ d ∷ true ∷ [])
 unfolding every ◌and◌
-all_read a b c d e p q r = rw (p, q, r) (go b)
+all_read a b c d p q r = rw (p, q, r) (go b d)
   where
-    go : (b : Bool) → (b and d and e) ≡ (b and true and d and e)
-    go true = refl
-    go false = refl
+    go : (b d : Bool) → (b and d) ≡ (b and true and d and true)
+    go true true = refl
+    go true false = refl
+    go false d = refl
 
 -- the number of the first of 21, 20, 22 that turns the call down, or 0
 abbrev pub state_number : Run → Plan → Bool → ℕ
@@ -265,6 +266,18 @@ unknown r l e q h = record_right_lem r l ∙ and_no_left _ _ (rw q at h)
 pub record Passed (r : Run) (l : Plan) (sized : Bool) (e : Pair) : Type 0 where
   pub none : state_number r l sized ≡ 0
   pub pair : e ≡ pair_at r l
+
+-- what is lent beside the plan: where its length is not right, 21 turns the call down; where it is, the checks are those of the plan alone
+module _ (r : Run) (l : Plan) {sized : Bool} where
+  pub unsized : sized ≡ false → 21 ≡ state_number r l sized
+  unsized h = run_fails r l sized (every_fails (read_by21 r l sized) 4 h)
+
+  module _ (h : sized ≡ true) where
+    pub by_plan : {n : ℕ} → n ≡ state_number r l true → n ≡ state_number r l sized
+    by_plan e = rw h e
+
+    pub passed_by_plan : {e : Pair} → 0 ≡ state_number r l true → e ≡ pair_at r l → Passed r l sized e
+    passed_by_plan n p = record { none = sym (by_plan n); pair = p }
 
 -- the DOFs of a cell of a side: within the list, few, and below the size
 pub record Dofs (dofs : List ℕ) (size : ℕ) (c : Cell) : Type 0 where

@@ -17,7 +17,7 @@ ghost use Rattle.boundary_assemblers.specs.AddFacts.{added_by, matrix_by};
 use crate::calls::local_matrix;
 use crate::lent::LentNumbers;
 use crate::{Pair, Run};
-use lent_numbers::{DistantNumbers, TouchingNumbers};
+use lent_numbers::{DistantNumbers, LocalForm, TouchingNumbers};
 use numbers::wide;
 use plans::Plan;
 use refusals::Refusal;
@@ -56,9 +56,13 @@ impl Run {
         ensures refusal { told result ≡ refusal (L.checks self.now.numbers.integrand pair.test.dim pair.trial.dim lent) }
         ensures held { OnOk result (Held pair.test.dim pair.trial.dim entries.new (L.entry self.now.numbers.integrand lent)) }
     {
-        let integrand = self.numbers.integrand;
-        lent.checked(integrand, pair.test.dim, pair.trial.dim)?;
-        lent.write_matrix(integrand, pair.test.dim, pair.trial.dim, entries);
+        let local = LocalForm {
+            integrand: self.numbers.integrand,
+            test_dim: pair.test.dim,
+            trial_dim: pair.trial.dim,
+        };
+        lent.checked(local)?;
+        lent.write_matrix(local, entries);
         Ok(())
     }
 
@@ -73,10 +77,14 @@ impl Run {
         ensures matrix_after { matrix.new ≡ matrix_by L.is_taken (λ m n. L.checks self.old.numbers.integrand m n lent) (L.entry self.old.numbers.integrand lent) (run_of self.old) (plan_lent plan.entry) matrix.old }
         ensures refused { OnErr result ((self.new ≡ self.old) × (matrix.new ≡ matrix.old)) }
     {
-        let pair = self.state_checked(plan, self.matrix_right(matrix))?;
+        if !self.matrix_right(matrix) {
+            return Err(Refusal::Run);
+        }
+        let pair = self.state_checked(plan)?;
         if !(L::is_taken(pair.item.pattern) & !self.entries) {
             return Err(Refusal::Kind);
         }
+        // nothing is allocated: a local matrix has at most 10 by 10 entries
         let mut entries = [0.0; 100];
         self.write_local(pair, lent, &mut entries)?;
         self.add_matrix(plan, pair, &entries, matrix);
@@ -85,7 +93,7 @@ impl Run {
     }
 
     // Adds the local matrix of a touching pair, and hands the run back. Checks 21, 20, 22, 23, then 9 to 11. A refused call leaves the run and the matrix as they
-    // were.
+    // were. (It differs from `add_distant` in what it is lent; the work of both, but for two lines, is done by `add`.)
     pub fn add_touching(
         mut self,
         plan: Plan,

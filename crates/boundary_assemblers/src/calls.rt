@@ -1,12 +1,11 @@
 // The checks that every call of a run makes, and look.
-ghost use Rattle.std.specs.Prelude.{◌≡◌, ◌+◌, ◌*◌, ◌≤◌, ◌<◌, length, IfOk};
+ghost use Rattle.std.specs.Prelude.{◌≡◌, ◌+◌, ◌≤◌, ◌<◌, true, length, IfOk};
 ghost use Rattle.lists.specs.Bool.{every};
 ghost use Rattle.lists.specs.Refusals.{refusal};
 ghost use Rattle.refusals.specs.Numbers.{told};
 ghost use Rattle.numbers.specs.Ranges.{all_below};
 ghost use Rattle.grid.specs.Mesh.{most_cells};
 ghost use Rattle.grid.specs.KindsFacts.{kinds_to};
-ghost use Rattle.function.specs.Elements.{cell_dim};
 ghost use Rattle.runs.specs.Runs.{pairs, begin, begin_entries, ranges_right, counts_right, kinds_fit, plan_right, record_known, state_checks, look};
 ghost use Rattle.boundary_assemblers.specs.Forms.{run_of, plan_lent, looked_of, pair_at, cell_at, dofs_at};
 ghost use Rattle.boundary_assemblers.specs.RunFacts.{read_by21, Matched, Inside};
@@ -20,14 +19,6 @@ use numbers::{all_below, wide};
 use plans::{Plan, PlanNumbers};
 use refusals::Refusal;
 use scatter::LocalMatrix;
-
-// How many local DOFs so many triangles and quads have together. Of elements that hold any u32 the sum fits.
-fn dofs_on(triangles: u32, quads: u32, elements: Elements) -> usize
-    requires { (triangles ≤ most_cells) × (quads ≤ most_cells) }
-    ensures { result ≡ triangles * cell_dim elements 3 + quads * cell_dim elements 4 }
-{
-    wide(triangles) * elements.dim(3) + wide(quads) * elements.dim(4)
-}
 
 // The DOFs of a cell in the DOF list of its side.
 fn cell_dofs(dofs: &[u32], cell: Cell) -> &[u32]
@@ -137,8 +128,8 @@ impl Run {
         ensures { result ≡ plan_right (run_of self.now) (plan_lent plan.entry) }
     {
         let n = self.numbers;
-        let test_places = dofs_on(n.triangles, n.quads, n.test);
-        let trial_places = dofs_on(n.triangles, n.quads, n.trial);
+        let test_places = n.test.places(n.triangles, n.quads);
+        let trial_places = n.trial.places(n.triangles, n.quads);
         (wide(n.rows) <= test_places)
             & (wide(n.columns) <= trial_places)
             & (plan.test_dofs.len() == test_places)
@@ -146,9 +137,9 @@ impl Run {
             & (plan.work.len() == WIDTH * self.pair_count())
     }
 
-    // 21, of all that it reads. `sized`: what is lent beside the plan has its length.
-    fn run_right(&self, plan: Plan, sized: bool) -> bool
-        ensures { result ≡ every (read_by21 (run_of self.now) (plan_lent plan.entry) sized) }
+    // 21, of the run and the plan.
+    fn run_right(&self, plan: Plan) -> bool
+        ensures { result ≡ every (read_by21 (run_of self.now) (plan_lent plan.entry) true) }
     {
         if !self.ranges_right() {
             return false;
@@ -156,7 +147,7 @@ impl Run {
         if !self.kinds_fit(plan) {
             return false;
         }
-        self.counts_right() & self.plan_right(plan) & sized
+        self.counts_right() & self.plan_right(plan)
     }
 
     // How many of the cells before a cell are quads. Cells of one kind are not counted.
@@ -193,17 +184,17 @@ impl Run {
         let kind = kinds[wide(cell)];
         Cell {
             kind,
-            start: dofs_on(cell - quads, quads, elements),
+            start: elements.places(cell - quads, quads),
             dim: elements.dim(kind),
         }
     }
 
-    // 21, 20, 22, which every call checks, then record p and its cells. `sized`: what is lent beside the plan has its length.
-    pub(crate) fn state_checked(&self, plan: Plan, sized: bool) -> Result<Pair, Refusal>
-        ensures refusal { told result ≡ refusal (state_checks (run_of self.now) (plan_lent plan.entry) sized) }
+    // 21, 20, 22, which every call checks, then record p and its cells. (A call that is lent more than the plan checks the length of that first: it is 21 too.)
+    pub(crate) fn state_checked(&self, plan: Plan) -> Result<Pair, Refusal>
+        ensures refusal { told result ≡ refusal (state_checks (run_of self.now) (plan_lent plan.entry) true) }
         ensures pair { IfOk result (λ e. e ≡ pair_at (run_of self.now) (plan_lent plan.entry)) }
     {
-        if !self.run_right(plan, sized) {
+        if !self.run_right(plan) {
             return Err(Refusal::Run);
         }
         if wide(self.position) == self.pair_count() {
@@ -232,7 +223,7 @@ impl Run {
     fn record(&self, plan: Plan) -> Result<WorkRecord, Refusal>
         ensures { looked_of (self.now, result) ≡ look (run_of self.now) (plan_lent plan.entry) }
     {
-        let pair = self.state_checked(plan, true)?;
+        let pair = self.state_checked(plan)?;
         Ok(pair.item)
     }
 

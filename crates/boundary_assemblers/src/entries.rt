@@ -4,8 +4,9 @@ ghost use Rattle.lists.specs.Bool.{◌and◌};
 ghost use Rattle.function.specs.Elements.{dims_right};
 ghost use Rattle.lent_numbers.specs.Forms.{touching_of};
 ghost use Rattle.scatter.specs.Entries.{entry_at};
+ghost use Rattle.scatter.specs.Lent.{SameLists};
 ghost use Rattle.runs.specs.Runs.{pairs, kind_cells, kind_dim, entries_on, entries_to, entries_right, add_entries, entries_written};
-ghost use Rattle.boundary_assemblers.specs.Forms.{run_of, plan_lent, entries_lent, SameLists, added_of, dofs_at};
+ghost use Rattle.boundary_assemblers.specs.Forms.{run_of, plan_lent, entries_lent, added_of, dofs_at};
 ghost use Rattle.boundary_assemblers.specs.RunFacts.{Dims, Counts, Standing};
 ghost use Rattle.boundary_assemblers.specs.EntryFacts.{put_at, Fit, written_at};
 
@@ -19,7 +20,7 @@ use plans::{Plan, PlanNumbers};
 use refusals::Refusal;
 use scatter::EntryLists;
 
-// The cells of a kind.
+// The cells of a kind, a byte as in the kind list that C lends.
 fn kind_cells(n: PlanNumbers, kind: u8) -> u32
     ensures { result ≡ kind_cells n kind }
 {
@@ -77,7 +78,7 @@ impl Run {
         (lists.rows.len() == count) & (lists.columns.len() == count) & (lists.values.len() == count)
     }
 
-    // 22 of the entries call: the pairs per two kinds put no cells of other kinds at p.
+    // 22 of the entries call: the pairs per two kinds put no cells of other kinds at p. (The four blocks one after the other, as in `entries_to`.)
     fn kinds_put(&self, test: Cell, trial: Cell) -> bool
         requires { Counts (run_of self.now) × (self.now.position < pairs self.now.numbers) }
         ensures { result ≡ put_at (run_of self.now) test.kind trial.kind }
@@ -115,8 +116,8 @@ impl Run {
         lists.write(at, local_matrix(plan, pair, entries));
     }
 
-    // Enters the pair of record p. (It shares its steps with `add`. The two stay apart, since the kinds are checked here alone, between two of those steps, and a
-    // closure for that step and one for the writing are no plainer.) Checks 21, 20, 22, 22 by the kinds, 23, then 9 to 11.
+    // Enters the pair of record p. Checks 21, 20, 22, 22 by the kinds, 23, then 9 to 11. (It shares four steps with `add`. One function for both would be given
+    // the check of the length, that of the kinds, the kind of run and the writing, each with the clauses that tell its law: longer than the four steps.)
     fn enter(
         &mut self,
         plan: Plan,
@@ -128,13 +129,17 @@ impl Run {
         ensures refused { OnErr result ((self.new ≡ self.old) × (entries_lent lists.new ≡ entries_lent lists.old)) }
         ensures same { SameLists lists.old lists.new }
     {
-        let pair = self.state_checked(plan, self.entries_right(lists))?;
+        if !self.entries_right(lists) {
+            return Err(Refusal::Run);
+        }
+        let pair = self.state_checked(plan)?;
         if !self.kinds_put(pair.test, pair.trial) {
             return Err(Refusal::Record);
         }
         if !(TouchingNumbers::is_taken(pair.item.pattern) & self.entries) {
             return Err(Refusal::Kind);
         }
+        // nothing is allocated: a local matrix has at most 10 by 10 entries
         let mut entries = [0.0; 100];
         self.write_local(pair, lent, &mut entries)?;
         self.write_entries(plan, pair, &entries, lists);
@@ -142,8 +147,8 @@ impl Run {
         Ok(())
     }
 
-    // Writes row, column and value of each entry of a touching pair into three lists, and hands the run back. Checks 21, 20, 22, 22 by the kinds, 23, then 9 to 11.
-    // A refused call leaves the run and the lists as they were.
+    // Writes row, column and value of each entry of a touching pair into three lists, and hands the run back. Checks 21, 20, 22, 22 by the kinds, 23, then 9 to
+    // 11. A refused call leaves the run and the lists as they were. (It shares two lines with the adds; the work is done by `enter`.)
     pub fn add_entries(
         mut self,
         plan: Plan,

@@ -14,11 +14,10 @@ ghost use Rattle.runs.specs.Runs.{is_touching, is_distant};
 
 use cell_pair_assemblers::{distant_matrix, touching_matrix};
 use cell_pairs::{DISTANT, NO_PATTERN};
-use integrands::Integrand;
-use lent_numbers::{DistantNumbers, TouchingNumbers};
+use lent_numbers::{DistantNumbers, LocalForm, TouchingNumbers};
 use refusals::Refusal;
 
-// Which records take it, its checks 9 to 11, and its local entries.
+// Which records take it, its checks 9 to 11, and its local entries. (Its two implementations hand on to one function each, of another crate, by three lines.)
 pub(crate) trait LentNumbers: Copy {
     ghost is_taken: { ℕ → Bool };
 
@@ -31,17 +30,17 @@ pub(crate) trait LentNumbers: Copy {
         ensures { result ≡ is_taken pattern };
 
     // Checks 9 to 11.
-    fn checked(self, f: Integrand, test_dim: usize, trial_dim: usize) -> Result<(), Refusal>
-        requires { (test_dim ≤ most_dim) × (trial_dim ≤ most_dim) }
-        ensures { told result ≡ refusal (checks f test_dim trial_dim self) };
+    fn checked(self, local: LocalForm) -> Result<(), Refusal>
+        requires { (local.test_dim ≤ most_dim) × (local.trial_dim ≤ most_dim) }
+        ensures { told result ≡ refusal (checks local.integrand local.test_dim local.trial_dim self) };
 
     // Its local matrix, in place of zeros.
-    fn write_matrix(self, f: Integrand, test_dim: usize, trial_dim: usize, entries: &mut [f64; 100])
-        requires right { integrand_right f ≡ true }
-        requires few { (test_dim ≤ most_dim) × (trial_dim ≤ most_dim) }
-        requires passes { refusal (checks f test_dim trial_dim self) ≡ 0 }
+    fn write_matrix(self, local: LocalForm, entries: &mut [f64; 100])
+        requires right { integrand_right local.integrand ≡ true }
+        requires few { (local.test_dim ≤ most_dim) × (local.trial_dim ≤ most_dim) }
+        requires passes { refusal (checks local.integrand local.test_dim local.trial_dim self) ≡ 0 }
         requires zeros { entries.old ≡ replicate 100 0·0 }
-        ensures { Held test_dim trial_dim entries.new (entry f self) };
+        ensures { Held local.test_dim local.trial_dim entries.new (entry local.integrand self) };
 }
 
 impl LentNumbers for TouchingNumbers<'_> {
@@ -57,21 +56,12 @@ impl LentNumbers for TouchingNumbers<'_> {
         pattern < NO_PATTERN
     }
 
-    fn checked(self, f: Integrand, test_dim: usize, trial_dim: usize) -> Result<(), Refusal>
-        requires { (test_dim ≤ most_dim) × (trial_dim ≤ most_dim) }
-        ensures { told result ≡ refusal (touching_checks f test_dim trial_dim (touching_of self.entry)) }
-    {
-        self.check(f, test_dim, trial_dim)
+    fn checked(self, local: LocalForm) -> Result<(), Refusal> {
+        self.check(local)
     }
 
-    fn write_matrix(self, f: Integrand, test_dim: usize, trial_dim: usize, entries: &mut [f64; 100])
-        requires right { integrand_right f ≡ true }
-        requires few { (test_dim ≤ most_dim) × (trial_dim ≤ most_dim) }
-        requires passes { refusal (touching_checks f test_dim trial_dim (touching_of self)) ≡ 0 }
-        requires zeros { entries.old ≡ replicate 100 0·0 }
-        ensures { Held test_dim trial_dim entries.new (touching_entry f (touching_of self.entry)) }
-    {
-        touching_matrix(entries, f, test_dim, trial_dim, self);
+    fn write_matrix(self, local: LocalForm, entries: &mut [f64; 100]) {
+        touching_matrix(entries, local, self);
     }
 }
 
@@ -88,20 +78,11 @@ impl LentNumbers for DistantNumbers<'_> {
         pattern == DISTANT
     }
 
-    fn checked(self, f: Integrand, test_dim: usize, trial_dim: usize) -> Result<(), Refusal>
-        requires { (test_dim ≤ most_dim) × (trial_dim ≤ most_dim) }
-        ensures { told result ≡ refusal (distant_checks f test_dim trial_dim (distant_of self.entry)) }
-    {
-        self.check(f, test_dim, trial_dim)
+    fn checked(self, local: LocalForm) -> Result<(), Refusal> {
+        self.check(local)
     }
 
-    fn write_matrix(self, f: Integrand, test_dim: usize, trial_dim: usize, entries: &mut [f64; 100])
-        requires right { integrand_right f ≡ true }
-        requires few { (test_dim ≤ most_dim) × (trial_dim ≤ most_dim) }
-        requires passes { refusal (distant_checks f test_dim trial_dim (distant_of self)) ≡ 0 }
-        requires zeros { entries.old ≡ replicate 100 0·0 }
-        ensures { Held test_dim trial_dim entries.new (distant_entry f (distant_of self.entry)) }
-    {
-        distant_matrix(entries, f, test_dim, trial_dim, self);
+    fn write_matrix(self, local: LocalForm, entries: &mut [f64; 100]) {
+        distant_matrix(entries, local, self);
     }
 }

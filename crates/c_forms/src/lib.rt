@@ -15,9 +15,10 @@ use integrands::{Integrand, Term};
 use plans::{KindPairs, PlanNumbers};
 use refusals::Refusal;
 
-// A term: `scaled` is 0 for a bare one, whose factor is not read, and any other number for one that carries the factor.
+// A term: `scaled` is 0 for a bare one, whose factor is not read, and any other number for one that carries the factor. The kind is a number, as a host hands it
+// over.
 #[repr(C)]
-#[derive(Clone, Copy)]
+#[derive(Clone, Copy, Default)]
 pub struct CTerm {
     pub scaled: u32,
     pub kind: u32,
@@ -26,16 +27,17 @@ pub struct CTerm {
 
 // One or two terms. Where the count is 1 the second is not read.
 #[repr(C)]
-#[derive(Clone, Copy)]
+#[derive(Clone, Copy, Default)]
 pub struct CIntegrand {
     pub terms: u32,
     pub first: CTerm,
     pub second: CTerm,
 }
 
-// The numbers that planning hands back.
+// The numbers that planning hands back. (The fields are those of the header; they are named twice more below, there and back, since the integrand is of another
+// type there, and one struct is not taken over from another in part.)
 #[repr(C)]
-#[derive(Clone, Copy)]
+#[derive(Clone, Copy, Default)]
 pub struct CNumbers {
     pub cells: u32,
     pub vertices: u32,
@@ -174,7 +176,7 @@ impl From<CRun> for Run {
     }
 }
 
-// ---- the C forms of what the calls answer
+// ---- the C forms of what the calls answer, set field by field: most go together with what the host gave, which a `From` of the answer alone has not
 
 // Planning's numbers, with the elements, of both kinds whether present or not, and the integrand that the host gave.
 fn c_numbers(test: Elements, trial: Elements, f: CIntegrand, n: PlanNumbers) -> CNumbers
@@ -197,30 +199,15 @@ fn c_numbers(test: Elements, trial: Elements, f: CIntegrand, n: PlanNumbers) -> 
     }
 }
 
-// What stands in their place where planning refuses. (The elements and the integrand are the host's, so that no default of the whole serves, and the definition
-// says each zero.)
+// What stands in their place where planning refuses: no cell.
 fn no_numbers(test: Elements, trial: Elements, f: CIntegrand) -> CNumbers
     ensures { result ≡ no_numbers test trial f }
 {
     CNumbers {
-        cells: 0,
-        vertices: 0,
-        edges: 0,
-        triangles: 0,
-        quads: 0,
-        touching: 0,
-        distant: 0,
-        pairs: KindPairs {
-            triangle_triangle: 0,
-            triangle_quad: 0,
-            quad_triangle: 0,
-            quad_quad: 0,
-        },
-        rows: 0,
-        columns: 0,
         test,
         trial,
         integrand: f,
+        ..CNumbers::default()
     }
 }
 

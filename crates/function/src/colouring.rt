@@ -1,5 +1,6 @@
 // The colours of the cells: cells rise, and each takes the smallest colour that no earlier cell sharing an entity has. The earlier cells that share
-// one are found among the cells of each of its entities.
+// one are found among the cells of each of its entities. (That the groups are of the cells by entity, and that cell i and those before it are there, each
+// function asks by a record's name: the types `Rows` and `Groups` cannot hold it, since their methods ask for less.)
 ghost use Rattle.std.specs.Prelude.{◌≡◌, not, ℕ, ◌+◌, ◌*◌, ◌<◌, ◌≤◌, length, get_or, eqb};
 ghost use Rattle.lists.specs.Bounded.{least};
 ghost use Rattle.grid.specs.Cells.{share_in};
@@ -116,7 +117,7 @@ fn colour_alone(colours: &mut [u32])
     colours.fill(0);
 }
 
-// The first kind present: triangles first.
+// The first kind present, a byte as in the list that C lends: triangles first.
 fn leading_kind(kinds: &[u8]) -> u8
     requires { length kinds.now ≤ most_cells }
     ensures { result ≡ get_or (kinds_present kinds.now) 0 3 }

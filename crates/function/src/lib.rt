@@ -1,9 +1,10 @@
 // Elements on a mesh, and colours.
 #![tactic(auto)]
 
-ghost use Rattle.std.specs.Prelude.{◌≡◌};
+ghost use Rattle.std.specs.Prelude.{◌≡◌, ◌+◌, ◌*◌, ◌≤◌};
 ghost use Rattle.numbers.specs.Ranges.{within};
-ghost use Rattle.function.specs.Elements.{most_dim, dim_of, element_of, cell_dim, elements_right, dims_right};
+ghost use Rattle.grid.specs.Mesh.{most_cells};
+ghost use Rattle.function.specs.Elements.{alike, most_dim, dim_of, element_of, cell_dim, elements_right, dims_right};
 
 use grid::corners_of;
 use numbers::wide;
@@ -17,7 +18,7 @@ pub const MOST_DIM: usize = 10;
 
 // DOFs per vertex (a), per edge (b) and per cell (c).
 #[repr(C)]
-#[derive(Clone, Copy)]
+#[derive(Clone, Copy, Default)]
 pub struct Element {
     pub a: u32,
     pub b: u32,
@@ -25,7 +26,7 @@ pub struct Element {
 }
 
 impl Element {
-    // The local DOFs of a cell of a kind, which has so many vertices and edges. Of any three u32 the sum fits.
+    // The local DOFs of a cell of a kind, which has so many vertices and edges: the number is the byte of the kind. Of any three u32 the sum fits.
     pub fn dim(self, kind: u8) -> usize
         ensures { result ≡ dim_of self kind }
     {
@@ -43,7 +44,7 @@ fn is_dim(n: usize) -> bool
 
 // An element for each kind of cell. (A kind is a byte, as in the list that C lends.)
 #[repr(C)]
-#[derive(Clone, Copy)]
+#[derive(Clone, Copy, Default)]
 pub struct Elements {
     pub triangle: Element,
     pub quad: Element,
@@ -65,6 +66,14 @@ impl Elements {
         element.dim(kind)
     }
 
+    // The local DOFs of so many triangles and quads together. Of elements that hold any u32 the sum fits.
+    pub fn places(self, triangles: u32, quads: u32) -> usize
+        requires { (triangles ≤ most_cells) × (quads ≤ most_cells) }
+        ensures { result ≡ triangles * cell_dim self 3 + quads * cell_dim self 4 }
+    {
+        wide(triangles) * self.dim(3) + wide(quads) * self.dim(4)
+    }
+
     // Check 4 of one side. The element of a kind that is not present is not read.
     fn right(self, triangles: u32, quads: u32) -> bool
         ensures { result ≡ elements_right triangles quads self }
@@ -80,6 +89,18 @@ impl Elements {
         is_dim(self.dim(3))
             & is_dim(self.dim(4))
             & ((triangle.a == quad.a) & (triangle.b == quad.b))
+    }
+}
+
+// One element for both kinds.
+impl From<Element> for Elements {
+    ghost from_gives = { λ e es. es ≡ alike e };
+
+    fn from(element: Element) -> Elements {
+        Elements {
+            triangle: element,
+            quad: element,
+        }
     }
 }
 

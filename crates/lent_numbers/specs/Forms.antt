@@ -1,5 +1,5 @@
 -- What the structs that a pair is lent stand for, and checks 10 and 11 side by side. Assumes nothing.
-use Rattle.std.specs.Prelude.{ℕ, ◌*◌, Bool, true, false, not, ◌&&◌, ◌≡◌, refl, [], ◌∷◌, length, eqb}
+use Rattle.std.specs.Prelude.{ℕ, ◌*◌, Bool, true, false, not, ◌&&◌, ◌≡◌, refl, List, [], ◌∷◌, length, eqb, Float}
 use native.Mathlib.Omega.{arith}
 use Rattle.lists.specs.Bool.{◌and◌, every, turned, passed}
 use Rattle.numbers.specs.Floats.{all_finite}
@@ -7,6 +7,7 @@ use Rattle.integrands.specs.declared.Integrand.{Integrand}
 use Rattle.integrands.specs.declared.Point.{Point}
 use Rattle.integrands.specs.Values.{geometry_at}
 use Rattle.integrands.specs.Terms.{kernel_width, table_rows}
+use Rattle.lent_numbers.specs.declared.LocalForm.{LocalForm}
 use Rattle.lent_numbers.specs.declared.Side.{Side}
 use Rattle.lent_numbers.specs.declared.TouchingNumbers.{TouchingNumbers}
 use Rattle.lent_numbers.specs.declared.DistantNumbers.{DistantNumbers}
@@ -34,6 +35,11 @@ point_of D n s p = record { geometry = geometry_at s.geometry.now p; table = rec
 abbrev pub side_lengths : ℕ → ℕ → Side → Bool
 side_lengths D n s = (eqb (length s.weights.now) s.points && eqb (length s.table.now) (D * (s.points * n))) && eqb (length s.geometry.now) (10 * s.points)
 
+-- of a pair, with so many points of kernel values
+abbrev pub pair_lengths : LocalForm → Side → Side → List Float → ℕ → Bool
+pair_lengths l test trial kernel points =
+    (side_lengths (table_rows l.integrand) l.test_dim test && side_lengths (table_rows l.integrand) l.trial_dim trial) && eqb (length kernel) (kernel_width l.integrand * points)
+
 abbrev pub side_numbers : Side → Bool
 side_numbers s = (all_finite s.table.now && all_finite s.geometry.now) && jdets_above0 s.geometry.now s.points
 
@@ -43,19 +49,19 @@ six_tests : (w t r k g h : Bool) → ((((w && t) && g) && ((w && r) && h)) && k)
 unfolding every ◌and◌
 six_tests w t r k g h = grind arith
 
-pub touching_lengths_by_side : (f : Integrand) (m n : ℕ) (a : TouchingNumbers)
-    → ((side_lengths (table_rows f) m (test_of a) && side_lengths (table_rows f) n (trial_of a)) && eqb (length a.kernel.now) (kernel_width f * a.points)) ≡ touching_lengths f m n (touching_of a)
+pub touching_lengths_by_side : (l : LocalForm) (a : TouchingNumbers)
+    → pair_lengths l (test_of a) (trial_of a) a.kernel.now a.points ≡ touching_lengths l.integrand l.test_dim l.trial_dim (touching_of a)
 unfolding touching_lengths
-touching_lengths_by_side f m n a = six_tests _ _ _ _ _ _
+touching_lengths_by_side l a = six_tests _ _ _ _ _ _
 
 seven_tests : (w v t r k g h : Bool) → ((((w && t) && g) && ((v && r) && h)) && k) ≡ every (w ∷ v ∷ t ∷ r ∷ k ∷ g ∷ h ∷ [])
 unfolding every ◌and◌
 seven_tests w v t r k g h = grind arith
 
-pub distant_lengths_by_side : (f : Integrand) (m n : ℕ) (a : DistantNumbers)
-    → ((side_lengths (table_rows f) m a.test && side_lengths (table_rows f) n a.trial) && eqb (length a.kernel.now) (kernel_width f * (a.test.points * a.trial.points))) ≡ distant_lengths f m n (distant_of a)
+pub distant_lengths_by_side : (l : LocalForm) (a : DistantNumbers)
+    → pair_lengths l a.test a.trial a.kernel.now (a.test.points * a.trial.points) ≡ distant_lengths l.integrand l.test_dim l.trial_dim (distant_of a)
 unfolding distant_lengths
-distant_lengths_by_side f m n a = seven_tests _ _ _ _ _ _ _
+distant_lengths_by_side l a = seven_tests _ _ _ _ _ _ _
 
 eight_tests : (w t r k g h x y : Bool) → (((w && k) && ((t && g) && x)) && ((r && h) && y)) ≡ every (w ∷ t ∷ r ∷ k ∷ g ∷ h ∷ x ∷ y ∷ [])
 unfolding every ◌and◌

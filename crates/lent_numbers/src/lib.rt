@@ -6,8 +6,8 @@ ghost use Rattle.std.specs.Prelude.{◌≡◌, ℕ, ◌+◌, ◌*◌, ◌<◌, �
 ghost use Rattle.lists.specs.Refusals.{refusal};
 ghost use Rattle.refusals.specs.Numbers.{told};
 ghost use Rattle.numbers.specs.Ranges.{within};
-ghost use Rattle.lent_numbers.specs.Lent.{most_touching_points, most_distant_points, jdets_above0, touching_lengths, touching_numbers, touching_checks, distant_lengths, distant_numbers, distant_checks};
-ghost use Rattle.lent_numbers.specs.Forms.{touching_of, distant_of, test_of, trial_of, point_of, side_lengths, side_numbers};
+ghost use Rattle.lent_numbers.specs.Lent.{most_touching_points, most_distant_points, most_point_pairs, jdets_above0, touching_lengths, touching_numbers, touching_checks, distant_lengths, distant_numbers, distant_checks};
+ghost use Rattle.lent_numbers.specs.Forms.{touching_of, distant_of, test_of, trial_of, point_of, side_lengths, side_numbers, pair_lengths};
 
 use integrands::{Integrand, Point};
 use numbers::all_finite;
@@ -18,6 +18,28 @@ use table::Table;
 const MOST_TOUCHING_POINTS: usize = 2048;
 
 const MOST_DISTANT_POINTS: usize = 64;
+
+// What a local matrix is of: the integrand, and how many basis functions the test cell and the trial cell have.
+#[derive(Clone, Copy)]
+pub struct LocalForm {
+    pub integrand: Integrand,
+    pub test_dim: usize,
+    pub trial_dim: usize,
+}
+
+impl LocalForm {
+    // The same integrand, for so many basis functions.
+    #[inline(always)]
+    pub fn with_dims(self, test_dim: usize, trial_dim: usize) -> LocalForm
+        ensures { (result.integrand ≡ self.integrand) × (result.test_dim ≡ test_dim) × (result.trial_dim ≡ trial_dim) }
+    {
+        LocalForm {
+            test_dim,
+            trial_dim,
+            ..self
+        }
+    }
+}
 
 // What one side of a pair is lent: its points and their weights, the table of its basis functions and the geometry of its cell.
 #[derive(Clone, Copy)]
@@ -66,6 +88,24 @@ fn jdets_above_0(s: &[f64], points: usize) -> bool
         ok = ok & (0.0 < s[10 * p]);
     }
     ok
+}
+
+// Check 10 of a pair: that of both sides, and one point's kernel values for each of so many points.
+fn pair_lengths_right(
+    local: LocalForm,
+    test: Side,
+    trial: Side,
+    kernel: &[f64],
+    points: usize,
+) -> bool
+    requires { (local.test_dim ≤ most_dim) × (local.trial_dim ≤ most_dim) × (test.points ≤ most_touching_points) × (trial.points ≤ most_touching_points) × (points ≤ most_point_pairs) }
+    ensures { result ≡ pair_lengths local test.entry trial.entry kernel.now points }
+{
+    let rows = integrands::table_rows(local.integrand);
+    let width = integrands::kernel_width(local.integrand);
+    test.lengths_right(rows, local.test_dim)
+        & trial.lengths_right(rows, local.trial_dim)
+        & (kernel.len() == width * points)
 }
 
 impl<'a> Side<'a> {
@@ -125,15 +165,11 @@ impl<'a> TouchingNumbers<'a> {
     }
 
     // Check 10.
-    fn lengths_right(self, f: Integrand, test_dim: usize, trial_dim: usize) -> bool
-        requires { (test_dim ≤ most_dim) × (trial_dim ≤ most_dim) × (self.points ≤ most_touching_points) }
-        ensures { result ≡ touching_lengths f test_dim trial_dim (touching_of self.entry) }
+    fn lengths_right(self, local: LocalForm) -> bool
+        requires { (local.test_dim ≤ most_dim) × (local.trial_dim ≤ most_dim) × (self.points ≤ most_touching_points) }
+        ensures { result ≡ touching_lengths local.integrand local.test_dim local.trial_dim (touching_of self.entry) }
     {
-        let rows = integrands::table_rows(f);
-        let width = integrands::kernel_width(f);
-        self.test().lengths_right(rows, test_dim)
-            & self.trial().lengths_right(rows, trial_dim)
-            & (self.kernel.len() == width * self.points)
+        pair_lengths_right(local, self.test(), self.trial(), self.kernel, self.points)
     }
 
     // Check 11.
@@ -149,14 +185,14 @@ impl<'a> TouchingNumbers<'a> {
 
     // Checks 9 to 11: the first that turns the pair down, if any.
     // Written for both sorts of pair: each of the three steps is another, and a trait of the three with their clauses is longer than what both share.
-    pub fn check(self, f: Integrand, test_dim: usize, trial_dim: usize) -> Result<(), Refusal>
-        requires { (test_dim ≤ most_dim) × (trial_dim ≤ most_dim) }
-        ensures { told result ≡ refusal (touching_checks f test_dim trial_dim (touching_of self.entry)) }
+    pub fn check(self, local: LocalForm) -> Result<(), Refusal>
+        requires { (local.test_dim ≤ most_dim) × (local.trial_dim ≤ most_dim) }
+        ensures { told result ≡ refusal (touching_checks local.integrand local.test_dim local.trial_dim (touching_of self.entry)) }
     {
         if !count_right(self.points, MOST_TOUCHING_POINTS) {
             return Err(Refusal::PointCount);
         }
-        if !self.lengths_right(f, test_dim, trial_dim) {
+        if !self.lengths_right(local) {
             return Err(Refusal::LentLength);
         }
         if !self.numbers_right() {
@@ -168,15 +204,12 @@ impl<'a> TouchingNumbers<'a> {
 
 impl<'a> DistantNumbers<'a> {
     // Check 10.
-    fn lengths_right(self, f: Integrand, test_dim: usize, trial_dim: usize) -> bool
-        requires { (test_dim ≤ most_dim) × (trial_dim ≤ most_dim) × (self.test.points ≤ most_distant_points) × (self.trial.points ≤ most_distant_points) }
-        ensures { result ≡ distant_lengths f test_dim trial_dim (distant_of self.entry) }
+    fn lengths_right(self, local: LocalForm) -> bool
+        requires { (local.test_dim ≤ most_dim) × (local.trial_dim ≤ most_dim) × (self.test.points ≤ most_distant_points) × (self.trial.points ≤ most_distant_points) }
+        ensures { result ≡ distant_lengths local.integrand local.test_dim local.trial_dim (distant_of self.entry) }
     {
-        let rows = integrands::table_rows(f);
-        let width = integrands::kernel_width(f);
-        self.test.lengths_right(rows, test_dim)
-            & self.trial.lengths_right(rows, trial_dim)
-            & (self.kernel.len() == width * (self.test.points * self.trial.points))
+        let points = self.test.points * self.trial.points;
+        pair_lengths_right(local, self.test, self.trial, self.kernel, points)
     }
 
     // Check 11.
@@ -192,16 +225,16 @@ impl<'a> DistantNumbers<'a> {
     }
 
     // Checks 9 to 11: the first that turns the pair down, if any.
-    pub fn check(self, f: Integrand, test_dim: usize, trial_dim: usize) -> Result<(), Refusal>
-        requires { (test_dim ≤ most_dim) × (trial_dim ≤ most_dim) }
-        ensures { told result ≡ refusal (distant_checks f test_dim trial_dim (distant_of self.entry)) }
+    pub fn check(self, local: LocalForm) -> Result<(), Refusal>
+        requires { (local.test_dim ≤ most_dim) × (local.trial_dim ≤ most_dim) }
+        ensures { told result ≡ refusal (distant_checks local.integrand local.test_dim local.trial_dim (distant_of self.entry)) }
     {
         if !(count_right(self.test.points, MOST_DISTANT_POINTS)
             & count_right(self.trial.points, MOST_DISTANT_POINTS))
         {
             return Err(Refusal::PointCount);
         }
-        if !self.lengths_right(f, test_dim, trial_dim) {
+        if !self.lengths_right(local) {
             return Err(Refusal::LentLength);
         }
         if !self.numbers_right() {

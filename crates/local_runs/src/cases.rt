@@ -1,19 +1,16 @@
 // A case: a pair of cells with what is lent for it, and the entries of its local matrix.
 ghost use Rattle.std.specs.Prelude.{◌≡◌, ◌≤◌, true};
+ghost use Rattle.function.specs.Elements.{most_dim};
 ghost use Rattle.integrands.specs.Terms.{integrand_right};
 
 use cell_pair_assemblers::{distant_matrix, touching_matrix};
-use integrands::{Integrand, integrand_right};
-use lent_numbers::{DistantNumbers, Side, TouchingNumbers};
+use function::MOST_DIM;
+use integrands::integrand_right;
+use lent_numbers::{DistantNumbers, LocalForm, Side, TouchingNumbers};
 use recorded::{Forms, Words, bits_of};
 use refusals::Refusal;
 use std::alloc::Global;
 use std::io;
-
-// The most basis functions of a cell, and the most entries of a local matrix.
-const MOST_DIM: usize = 10;
-
-const ENTRIES: usize = MOST_DIM * MOST_DIM;
 
 /// The points of a touching pair, or of the two cells of a distant one.
 #[derive(Clone, Copy)]
@@ -25,9 +22,7 @@ enum Points {
 #[derive(Drop)]
 pub struct Case {
     points: Points,
-    integrand: Integrand,
-    test_dim: usize,
-    trial_dim: usize,
+    local: LocalForm,
     test_weights: Vec<f64>,
     trial_weights: Vec<f64>,
     test_table: Vec<f64>,
@@ -67,9 +62,11 @@ impl Case {
                     trial: trial_points,
                 }
             },
-            integrand: forms.read_factors(words)?,
-            test_dim,
-            trial_dim,
+            local: LocalForm {
+                integrand: forms.read_factors(words)?,
+                test_dim,
+                trial_dim,
+            },
             test_weights: words.list(alloc, test_weights)?,
             trial_weights: words.list(alloc, trial_weights)?,
             test_table: words.list(alloc, test_table)?,
@@ -112,32 +109,21 @@ impl Case {
     }
 
     // The local matrix, or the refusal of what is lent.
-    fn matrix(&self) -> Result<[f64; ENTRIES], Refusal>
-        requires { (self.now.test_dim ≤ 10) × (self.now.trial_dim ≤ 10) × (integrand_right self.now.integrand ≡ true) }
+    fn matrix(&self) -> Result<[f64; 100], Refusal>
+        requires { (self.now.local.test_dim ≤ most_dim) × (self.now.local.trial_dim ≤ most_dim) × (integrand_right self.now.local.integrand ≡ true) }
     {
-        let mut entries = [0.0; ENTRIES];
+        // An array, as the calls ask for one.
+        let mut entries = [0.0; 100];
         match self.points {
             Points::Touching(points) => {
                 let lent = self.touching(points);
-                lent.check(self.integrand, self.test_dim, self.trial_dim)?;
-                touching_matrix(
-                    &mut entries,
-                    self.integrand,
-                    self.test_dim,
-                    self.trial_dim,
-                    lent,
-                );
+                lent.check(self.local)?;
+                touching_matrix(&mut entries, self.local, lent);
             }
             Points::Distant { test, trial } => {
                 let lent = self.distant(test, trial);
-                lent.check(self.integrand, self.test_dim, self.trial_dim)?;
-                distant_matrix(
-                    &mut entries,
-                    self.integrand,
-                    self.test_dim,
-                    self.trial_dim,
-                    lent,
-                );
+                lent.check(self.local)?;
+                distant_matrix(&mut entries, self.local, lent);
             }
         }
         Ok(entries)
@@ -145,13 +131,15 @@ impl Case {
 
     /// Whether the pair is accepted and gives the recorded entries.
     pub fn agrees(&self) -> bool {
-        if MOST_DIM < self.test_dim
-            || MOST_DIM < self.trial_dim
-            || !integrand_right(self.integrand)
-        {
+        let LocalForm {
+            integrand,
+            test_dim,
+            trial_dim,
+        } = self.local;
+        if MOST_DIM < test_dim || MOST_DIM < trial_dim || !integrand_right(integrand) {
             return false;
         }
-        let count = self.test_dim * self.trial_dim;
+        let count = test_dim * trial_dim;
         match self.matrix() {
             Ok(matrix) => {
                 self.entries.len() == count

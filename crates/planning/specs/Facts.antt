@@ -1,23 +1,22 @@
 -- What planning's checks come to. Assumes nothing.
-use Rattle.std.specs.Prelude.{ℕ, zero, suc, ◌+◌, ◌*◌, ◌<◌, ◌≤◌, ◌≡◌, refl, Bool, true, List, [], ◌∷◌, length, get_or, eqb}
-use Rattle.std.proofs.Common.{zero-mul, mul-le-mul, mul-le-mul_right, arith, sym, ap, subst, ◌∙◌}
+use Rattle.std.specs.Prelude.{ℕ, ◌+◌, ◌*◌, ◌<◌, ◌≤◌, ◌≡◌, refl, Bool, true, List, [], ◌∷◌, length, eqb}
+use Rattle.std.proofs.Common.{mul-le-mul, mul-le-mul_right, arith, sym, ap, subst, ◌∙◌}
 use Rattle.lists.specs.Bool.{every, and_left, and_right}
 use Rattle.lists.specs.Refusals.{check, refusal, Answers, answers, refusal_first, refusal_rest}
 use Rattle.refusals.specs.declared.Refusal.{Refusal}
 use Rattle.refusals.specs.Numbers.{number_of, number_nonzero}
 use Rattle.numbers.specs.Ranges.{within_high}
-use Rattle.grid.specs.declared.Sizes.{Sizes}
-use Rattle.grid.specs.Cells.{part, own, distinct}
-use Rattle.grid.specs.CellsFacts.{Shaped, before_most}
+use Rattle.grid.specs.Cells.{distinct}
+use Rattle.grid.specs.CellsFacts.{before_most}
 use Rattle.grid.specs.Rows.{rows_of, cell_in}
 use Rattle.grid.specs.RowsFacts.{Padded, length_rows, cell_rows, rows_below, rows_padded}
-use Rattle.grid.specs.Mesh.{most_cells, most_vertices, Mesh, mesh_with, corners, cells_of, mesh_checks}
+use Rattle.grid.specs.Mesh.{most_cells, Mesh, corners, cells_of, mesh_checks}
 use Rattle.grid.specs.Facts.{Fine, vertices_shaped}
 use Rattle.grid.specs.KindsFacts.{Kinded, kinds_sum, before_cells}
 use Rattle.cells_by_key.specs.Groups.{Below}
 use Rattle.function.specs.declared.Elements.{Elements}
 use Rattle.function.specs.Elements.{most_dim, cell_dim, elements_right, dims_right}
-use Rattle.function.specs.ElementsFacts.{dim_within, dim_three, dim_four}
+use Rattle.function.specs.ElementsFacts.{dim_within}
 use Rattle.integrands.specs.Terms.{integrand_right}
 use Rattle.cell_pairs.specs.Records.{width}
 use Rattle.cell_pairs.specs.Patterns.{patterns_right}
@@ -73,16 +72,6 @@ module _ (m : Mesh) (f : Fine m) where
     places_few right =
         let each = before_most (cell_dim es) m.kinds most_dim m.cells (λ i h. within_high 1 most_dim _ (dim_within m.cells m.kinds (fine_kinded f) es right i h)) in
         omega (arith, each, mul-le-mul_right most_dim f.few_cells)
-
--- the DOFs of the cells of a kind: none where there are no such cells, whatever the dim
-few_dofs : (n d : ℕ) → n ≤ most_cells → (0 < n → d ≤ most_dim) → n * d ≤ most_cells * most_dim
-few_dofs zero d h small = omega (arith, zero-mul d)
-few_dofs (suc n) d h small = mul-le-mul h (small (omega arith))
-
-pub products : (t q : ℕ) (es : Elements) → elements_right t q es ≡ true → t ≤ most_cells → q ≤ most_cells
-    → (t * cell_dim es 3 ≤ most_cells * most_dim) × (q * cell_dim es 4 ≤ most_cells * most_dim)
-products t q es right ht hq =
-    (few_dofs t _ ht (λ some. within_high 1 most_dim _ (dim_three t q es right some)), few_dofs q _ hq (λ some. within_high 1 most_dim _ (dim_four t q es right some)))
 
 -- 4: both sides
 pub both_right : (t q : ℕ) (test trial : Elements) → dims_right t q test trial ≡ true → (elements_right t q test ≡ true) × (elements_right t q trial ≡ true)

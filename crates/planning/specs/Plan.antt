@@ -1,12 +1,12 @@
 -- What the calls of `write_plan` ask, from what planning's checks have found, and what they come to. Assumes nothing.
-use Rattle.std.specs.Prelude.{ℕ, zero, suc, ◌*◌, ◌≤◌, ◌≡◌, true, List, [], ◌++◌, length, drop}
+use Rattle.std.specs.Prelude.{ℕ, zero, suc, ◌*◌, ◌≤◌, ◌≡◌, true, List, ◌++◌, length, drop}
 use Rattle.std.proofs.Common.{arith, ◌∙◌, eqb-true}
-use Rattle.std.proofs.Math.Path.{refl, ap}
+use Rattle.std.proofs.Math.Path.{refl}
 use Rattle.lists.specs.Bool.{every_at}
 use Rattle.refusals.specs.declared.Refusal.{Refusal}
 use Rattle.refusals.specs.Numbers.{number_of, number_nonzero}
 use Rattle.numbers.specs.Ranges.{within_high}
-use Rattle.grid.specs.Mesh.{most_cells, Mesh, mesh_with, corners, sizes_of, cells_of}
+use Rattle.grid.specs.Mesh.{most_cells, Mesh, corners, sizes_of, cells_of}
 use Rattle.grid.specs.Facts.{vertices_shaped, edges_shaped}
 use Rattle.function.specs.declared.Elements.{Elements}
 use Rattle.function.specs.Elements.{Space}
@@ -15,12 +15,10 @@ use Rattle.dof_numbering.specs.Walk.{Sized}
 use Rattle.function.specs.Colours.{colour_list, colour_count, Colourable}
 use Rattle.function.proofs.ColoursPromises.{count_at_most}
 use Rattle.cell_pairs.specs.Records.{flat}
-use Rattle.cell_pairs.specs.Patterns.{patterns_right}
-use Rattle.cell_pairs.specs.WorkList.{most_batch, coloured, distant_kinds, distant_part, touching_pair, touching_pattern, touching_part, work_list, sharing_pairs, sharing_of, distant_pairs}
-use Rattle.cell_pairs.specs.Counting.{Countable}
+use Rattle.cell_pairs.specs.WorkList.{most_batch, work_list}
 use Rattle.plans.specs.declared.PlanNumbers.{PlanNumbers}
 use Rattle.plans.specs.declared.KindPairs.{KindPairs}
-use Rattle.plans.specs.Planning.{ready, refused, lists_of, plan_refusal, plan, plan_answer, plan_lists, unless_refused, Planning, Lists, dof_places, places_on, space_on, test_space, trial_space, batch_right, lengths_right, kind_pairs, plan_numbers, written_lists}
+use Rattle.plans.specs.Planning.{ready, refused, lists_of, plan_refusal, plan, plan_answer, plan_lists, unless_refused, Planning, Lists, places_on, space_on, test_space, trial_space, batch_right, lengths_right, plan_numbers, written_lists}
 use Rattle.plans.specs.Accepted.{Accepted, counted, mesh_fine, Fits, cell_dims, filled}
 use Rattle.planning.specs.Facts.{kinds_few, vertices_below, edges_below}
 use Rattle.planning.specs.Work.{Ready as WorkReady, Written}

@@ -1,9 +1,9 @@
 // Checks 1, 26, 1 and 2 to 8, in this order.
-ghost use Rattle.std.specs.Prelude.{◌≡◌, true, ◌+◌, ◌*◌, ◌≤◌, length};
+ghost use Rattle.std.specs.Prelude.{◌≡◌, ◌*◌, ◌≤◌};
 ghost use Rattle.grid.specs.Lent.{mesh_lent};
 ghost use Rattle.grid.specs.Mesh.{most_cells};
 ghost use Rattle.grid.specs.Facts.{Fine};
-ghost use Rattle.function.specs.Elements.{most_dim, cell_dim, elements_right};
+ghost use Rattle.function.specs.Elements.{most_dim};
 ghost use Rattle.cell_pairs.specs.Patterns.{patterns_right};
 ghost use Rattle.refusals.specs.Numbers.{told};
 ghost use Rattle.plans.specs.Planning.{batch_right, plan_refusal};
@@ -14,7 +14,7 @@ ghost use Rattle.planning.specs.Facts.{lengths_by};
 use crate::Assembly;
 use cell_pairs::WIDTH;
 use cell_patterns::patterns_right;
-use function::{Elements, dims_right};
+use function::dims_right;
 use grid::{MOST_CELLS, Mesh, Rows, count_kind, mesh_refusal, write_rows};
 use integrands::integrand_right;
 use numbers::wide;
@@ -23,14 +23,6 @@ use refusals::Refusal;
 
 // The largest batch.
 const MOST_BATCH: u32 = 65535;
-
-// The places of the DOFs of so many triangles and quads. Of none, the dim makes no odds.
-fn dof_places(triangles: u32, quads: u32, elements: Elements) -> usize
-    requires { (triangles ≤ most_cells) × (quads ≤ most_cells) × (elements_right triangles quads elements ≡ true) }
-    ensures { result ≡ triangles * cell_dim elements 3 + quads * cell_dim elements 4 }
-{
-    wide(triangles) * elements.dim(3) + wide(quads) * elements.dim(4)
-}
 
 // Check 5.
 fn batch_right(batch: u32) -> bool
@@ -60,6 +52,7 @@ fn cells_right(mesh: Mesh) -> bool
     requires { Fine (mesh_lent mesh) }
     ensures { result ≡ patterns_right (mesh_lent mesh.entry) }
 {
+    // nothing is allocated: room for the rows of the most cells
     let mut rows = [0u32; 4 * MOST_CELLS];
     let rows = &mut rows[..4 * wide(mesh.sizes.cells)];
     write_rows(mesh.kinds, mesh.cell_vertices, mesh.sizes.vertices, rows);
@@ -91,8 +84,8 @@ pub(crate) fn plan_checked(mesh: Mesh, assembly: Assembly, lists: &PlanLists) ->
     if !cells_right(mesh) {
         return Err(Refusal::Pattern);
     }
-    let rows = dof_places(triangles, quads, assembly.test);
-    let columns = dof_places(triangles, quads, assembly.trial);
+    let rows = assembly.test.places(triangles, quads);
+    let columns = assembly.trial.places(triangles, quads);
     if !lengths_right(mesh.sizes.cells, rows, columns, lists) {
         return Err(Refusal::ListLength);
     }

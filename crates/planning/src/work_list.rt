@@ -27,7 +27,7 @@ pub(crate) struct PairCounts {
     pub(crate) pairs: KindPairs,
 }
 
-// The key by which a cell is grouped, of so many colours: its colour, for a quad behind those of the triangles.
+// The key by which a cell is grouped, of so many colours: its colour, for a quad behind those of the triangles. (A kind is a byte, as in the list that C lends.)
 fn key_of(kind: u8, colour: u32, count: u32) -> u32
     requires { (colour < most_cells) × (count ≤ most_cells) }
     ensures { result ≡ colour + cond (eqb kind 4) count 0 }
@@ -94,6 +94,7 @@ pub(crate) fn write_work(
     ensures { Written (mesh_lent mesh.entry) batch tests.entry.colours.now trials.entry.colours.now work.new result.distant result.touching result.pairs }
 {
     let cells = wide(mesh.sizes.cells);
+    // nothing is allocated: room for the most cells, and for their groups by kind and colour
     let mut rows = [0u32; 4 * MOST_CELLS];
     let mut keys = [0u32; MOST_CELLS];
     let mut test_order = [0u32; MOST_CELLS];

@@ -8,7 +8,7 @@ use integrands::Integrand;
 
 // The touching pairs per two kinds: the kind of the test cell, then that of the trial cell.
 #[repr(C)]
-#[derive(Clone, Copy)]
+#[derive(Clone, Copy, Default)]
 pub struct KindPairs {
     pub triangle_triangle: u32,
     pub triangle_quad: u32,
@@ -45,7 +45,8 @@ pub struct Plan<'a> {
     pub work: &'a [u32],
 }
 
-// The lists that planning is lent to write: each side has its own DOF, colour and owner list.
+// The lists that planning is lent to write: each side has its own DOF, colour and owner list. (A struct of the three, twice, was tried: the borrow checker does
+// not cover structs in a struct whose lists C lends one by one, as `seivalto_plan` has them.)
 #[derive(Drop)]
 pub struct PlanLists<'a> {
     pub test_dofs: &'a mut [u32],

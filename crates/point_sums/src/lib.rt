@@ -2,23 +2,21 @@
 #![tactic(auto)]
 
 ghost use Rattle.function.specs.Elements.{most_dim};
-ghost use Rattle.std.specs.Prelude.{◌≡◌, ℕ, ◌+◌, ◌*◌, ◌<◌, ◌≤◌, length, Float, true};
+ghost use Rattle.std.specs.Prelude.{◌≡◌, ℕ, ◌+◌, ◌<◌, ◌≤◌, length, Float, true};
 ghost use Rattle.numbers.specs.Floats.{◌⊕◌, ◌⊗◌, ◌!◌};
 ghost use Rattle.table.specs.Views.{row_of};
 ghost use Rattle.integrands.specs.declared.Integrand.{Integrand};
 ghost use Rattle.integrands.specs.declared.Term.{Term};
 ghost use Rattle.integrands.specs.declared.Term.TheVariants as Variants;
 ghost use Rattle.integrands.specs.Terms.{kind_of, table_rows};
-ghost use Rattle.integrands.specs.Values.{term_value};
-ghost use Rattle.integrands.specs.Parts.{ValueOfKind, has_curls, factored, test_part};
-ghost use Rattle.integrands.specs.Columns.{Added};
+ghost use Rattle.integrands.specs.Parts.{ValueOfKind, has_curls, test_part};
+ghost use Rattle.integrands.specs.Columns.{Reads};
 ghost use Rattle.integrands.specs.Views.{Covers};
-ghost use Rattle.point_sums.specs.Weights.{weighed};
 ghost use Rattle.integrands.specs.declared.Point.{Point};
 ghost use Rattle.integrands.specs.declared.KindValue.TheVariants as Values;
 ghost use Rattle.point_sums.specs.declared.Parts.{Parts};
 ghost use Rattle.point_sums.specs.Parts.{Long, part_at, Turned};
-ghost use Rattle.point_sums.specs.Reads.{PairReads, pair_sum};
+ghost use Rattle.point_sums.specs.Reads.{PairReads, kernel_at, ValueAt, HasRows, term_at, outer_at, value_at, AddedAt};
 
 use function::MOST_DIM;
 use integrands::{Integrand, KindValue, Part, Point, Term};
@@ -31,6 +29,30 @@ pub struct Weight {
     pub v: f64,
 }
 
+// A test point and a trial point: how their values are weighed, their kernel values, which stand from `at` on, and what each side is lent.
+#[derive(Clone, Copy)]
+pub struct PointPair<'a> {
+    pub weight: Weight,
+    pub kernel: &'a [f64],
+    pub at: usize,
+    pub test: Point<'a>,
+    pub trial: Point<'a>,
+}
+
+impl PointPair<'_> {
+    // The value of a term's kind at the two points.
+    #[inline(always)]
+    fn value(self, term: Term) -> KindValue
+        requires { Reads (kind_of term) self.at self.kernel.now }
+        ensures { ValueAt self.entry term result }
+    {
+        let kind = integrands::kind_of(term);
+        let test = self.test.geometry;
+        let trial = self.trial.geometry;
+        integrands::kind_value(kind, self.kernel, self.at, test, trial)
+    }
+}
+
 // What each test basis function brings, number by number: as a list of `Part` kind 3 at dim 3 takes 1.09 times the instructions.
 #[derive(Clone, Copy)]
 pub struct Parts {
@@ -39,6 +61,7 @@ pub struct Parts {
     x2: [f64; MOST_DIM],
 }
 
+// Room for ten, of which as many are filled as there are basis functions: nothing is allocated. So too `scaled` and `more` below.
 const NO_PARTS: Parts = Parts {
     x0: [0.0; MOST_DIM],
     x1: [0.0; MOST_DIM],
@@ -60,24 +83,24 @@ impl Parts {
 }
 
 // Adds value·w·v to each entry. The value at test basis i and trial basis j is `value(i, t)`, where t is what trial basis j brings.
-// Inlined, as its callers are: a call at each point takes two to three times as long.
+// Inlined, as its callers are: a call at each point takes two to three times as long. By number, as i and j are what the closures are asked for.
 #[inline(always)]
 fn add_values<T: Copy, B: Fn(usize) -> T, V: Fn(usize, T) -> f64>(
     entries: &mut [f64; 100],
-    weight: Weight,
-    test_dim: usize,
-    trial_dim: usize,
+    pair: PointPair,
     brings: B,
     value: V,
 )
-    requires sizes { (length entries.old ≡ 100) × (test_dim ≤ most_dim) × (trial_dim ≤ most_dim) }
-    requires may_bring { (j : ℕ) → j < trial_dim → B.pre brings j }
-    requires may_value { (i j : ℕ) (t : T) → i < test_dim → j < trial_dim → B.post brings j t → V.pre value i t }
+    requires sizes { (length entries.old ≡ 100) × (pair.test.table.dim ≤ most_dim) × (pair.trial.table.dim ≤ most_dim) }
+    requires may_bring { (j : ℕ) → j < pair.trial.table.dim → B.pre brings j }
+    requires may_value { (i j : ℕ) (t : T) → i < pair.test.table.dim → j < pair.trial.table.dim → B.post brings j t → V.pre value i t }
     ensures { (u : ℕ → ℕ → Float)
-        → ((i j : ℕ) (t : T) (x : Float) → i < test_dim → j < trial_dim → B.post brings j t → V.post value i t x → x ≡ u i j)
-        → Added test_dim trial_dim entries.old entries.new (λ (i j : ℕ). weighed weight (u i j)) }
+        → ((i j : ℕ) (t : T) (x : Float) → i < pair.entry.test.table.dim → j < pair.entry.trial.table.dim → B.post brings j t → V.post value i t x → x ≡ u i j)
+        → AddedAt pair.entry entries.old entries.new u }
 {
-    for j in 0..trial_dim {
+    let weight = pair.weight;
+    let test_dim = pair.test.table.dim;
+    for j in 0..pair.trial.table.dim {
         let t = brings(j);
         for i in 0..test_dim {
             entries[i + test_dim * j] += value(i, t) * weight.w * weight.v;
@@ -85,7 +108,7 @@ fn add_values<T: Copy, B: Fn(usize) -> T, V: Fn(usize, T) -> f64>(
     }
 }
 
-// c times row 0 of each basis function.
+// c times row 0 of each basis function. By number, as the table is read by it, here and in `bring_parts`: with `iter_mut` and `enumerate` it is there as well.
 #[inline(always)]
 fn scale_rows(scaled: &mut [f64; MOST_DIM], c: f64, table: Table)
     requires { (length scaled.old ≡ most_dim) × Covers table }
@@ -113,25 +136,16 @@ fn bring_parts(parts: &mut Parts, x: KindValue, test: Point)
 
 // A term other than curl-curl, with any c: c·t·r with its factor.
 #[inline(always)]
-pub fn add_outer(
-    entries: &mut [f64; 100],
-    weight: Weight,
-    term: Term,
-    c: f64,
-    test: Table,
-    trial: Table,
-)
-    requires { (length entries.old ≡ 100) × Covers test × Covers trial }
-    ensures { Added test.entry.dim trial.entry.dim entries.old entries.new (λ (i j : ℕ).
-        weighed weight (factored term (c ⊗ row_of test.entry i 0 ⊗ row_of trial.entry j 0))) }
+pub fn add_outer(entries: &mut [f64; 100], pair: PointPair, term: Term, c: f64)
+    requires { (length entries.old ≡ 100) × Covers pair.test.table × Covers pair.trial.table }
+    ensures { AddedAt pair.entry entries.old entries.new (outer_at pair.entry term c) }
 {
+    let trial = pair.trial.table;
     let mut scaled = [0.0; MOST_DIM];
-    scale_rows(&mut scaled, c, test);
+    scale_rows(&mut scaled, c, pair.test.table);
     add_values(
         entries,
-        weight,
-        test.dim,
-        trial.dim,
+        pair,
         |j| trial.get(j, 0),
         |i, r| integrands::factored(term, scaled[i] * r),
     );
@@ -139,28 +153,18 @@ pub fn add_outer(
 
 // A term with curls; c is its kernel value, and parts are the curls of the test basis functions.
 #[inline(always)]
-pub fn add_curls(
-    entries: &mut [f64; 100],
-    weight: Weight,
-    term: Term,
-    c: f64,
-    test: Point,
-    parts: &Parts,
-    trial: Point,
-)
-    requires { (length entries.old ≡ 100) × Covers test.table × Covers trial.table × (3 ≤ trial.table.rows) × Turned test parts.now }
-    ensures { (k : ℕ → Float) → ValueOfKind (kind_of term) k test.entry.geometry trial.entry.geometry (Values.Curls c)
-        → Added test.entry.table.dim trial.entry.table.dim entries.old entries.new (λ (i j : ℕ).
-        weighed weight (term_value term k (row_of test.entry.table i) (row_of trial.entry.table j) test.entry.geometry trial.entry.geometry)) }
+pub fn add_curls(entries: &mut [f64; 100], pair: PointPair, parts: &Parts, term: Term, c: f64)
+    requires { (length entries.old ≡ 100) × Covers pair.test.table × Covers pair.trial.table × (3 ≤ pair.trial.table.rows) × Turned pair.test parts.now }
+    ensures { (k : ℕ → Float) → ValueOfKind (kind_of term) k pair.entry.test.geometry pair.entry.trial.geometry (Values.Curls c)
+        → AddedAt pair.entry entries.old entries.new (term_at pair.entry k term) }
 {
     let x = KindValue::Curls(c);
-    let test_jdet = test.geometry.jdet;
+    let trial = pair.trial;
+    let test_jdet = pair.test.geometry.jdet;
     let trial_jdet = trial.geometry.jdet;
     add_values(
         entries,
-        weight,
-        test.table.dim,
-        trial.table.dim,
+        pair,
         |j| integrands::trial_part(x, trial, j),
         |i, b| integrands::evaluate(term, x, parts.at(i), b, test_jdet, trial_jdet),
     );
@@ -168,29 +172,18 @@ pub fn add_curls(
 
 // Two terms other than curl-curl, first plus second: c·t·r and d·t·r, each with its factor.
 #[inline(always)]
-fn add_outers(
-    entries: &mut [f64; 100],
-    weight: Weight,
-    first: Term,
-    c: f64,
-    second: Term,
-    d: f64,
-    test: Table,
-    trial: Table,
-)
-    requires { (length entries.old ≡ 100) × Covers test × Covers trial }
-    ensures { Added test.entry.dim trial.entry.dim entries.old entries.new (λ (i j : ℕ).
-        weighed weight (factored first (c ⊗ row_of test.entry i 0 ⊗ row_of trial.entry j 0) ⊕ factored second (d ⊗ row_of test.entry i 0 ⊗ row_of trial.entry j 0))) }
+fn add_outers(entries: &mut [f64; 100], pair: PointPair, first: Term, c: f64, second: Term, d: f64)
+    requires { (length entries.old ≡ 100) × Covers pair.test.table × Covers pair.trial.table }
+    ensures { AddedAt pair.entry entries.old entries.new (λ (i j : ℕ). outer_at pair.entry first c i j ⊕ outer_at pair.entry second d i j) }
 {
+    let trial = pair.trial.table;
     let mut scaled = [0.0; MOST_DIM];
-    scale_rows(&mut scaled, c, test);
+    scale_rows(&mut scaled, c, pair.test.table);
     let mut more = [0.0; MOST_DIM];
-    scale_rows(&mut more, d, test);
+    scale_rows(&mut more, d, pair.test.table);
     add_values(
         entries,
-        weight,
-        test.dim,
-        trial.dim,
+        pair,
         |j| trial.get(j, 0),
         |i, r| {
             let one = integrands::factored(first, scaled[i] * r);
@@ -204,21 +197,18 @@ fn add_outers(
 #[inline(always)]
 fn add_two(
     entries: &mut [f64; 100],
-    weight: Weight,
+    pair: PointPair,
     first: Term,
     x: KindValue,
     second: Term,
     y: KindValue,
-    test: Point,
-    trial: Point,
 )
-    requires { (length entries.old ≡ 100) × Covers test.table × Covers trial.table × (has_curls x ≡ true → (3 ≤ test.table.rows) × (3 ≤ trial.table.rows)) × (has_curls y ≡ true → (3 ≤ test.table.rows) × (3 ≤ trial.table.rows)) }
-    ensures { (k : ℕ → Float) → ValueOfKind (kind_of first) k test.entry.geometry trial.entry.geometry x
-        → ValueOfKind (kind_of second) k test.entry.geometry trial.entry.geometry y
-        → Added test.entry.table.dim trial.entry.table.dim entries.old entries.new (λ (i j : ℕ).
-        weighed weight (term_value first k (row_of test.entry.table i) (row_of trial.entry.table j) test.entry.geometry trial.entry.geometry
-        ⊕ term_value second k (row_of test.entry.table i) (row_of trial.entry.table j) test.entry.geometry trial.entry.geometry)) }
+    requires reads { (length entries.old ≡ 100) × Covers pair.test.table × Covers pair.trial.table × HasRows pair x × HasRows pair y }
+    requires first { ValueAt pair first x }
+    requires second { ValueAt pair second y }
+    ensures { AddedAt pair.entry entries.old entries.new (λ (i j : ℕ). term_at pair.entry (kernel_at pair.entry) first i j ⊕ term_at pair.entry (kernel_at pair.entry) second i j) }
 {
+    let PointPair { test, trial, .. } = pair;
     let mut parts = NO_PARTS;
     bring_parts(&mut parts, x, test);
     let mut more = NO_PARTS;
@@ -227,9 +217,7 @@ fn add_two(
     let trial_jdet = trial.geometry.jdet;
     add_values(
         entries,
-        weight,
-        test.table.dim,
-        trial.table.dim,
+        pair,
         |j| {
             (
                 integrands::trial_part(x, trial, j),
@@ -259,25 +247,17 @@ pub trait AddPoint {
         requires { suits self.now × Covers test.table × (test.table.rows ≡ table_rows (integrand self.now)) }
         ensures { ready self.now test.entry result };
 
-    // What a test point and a trial point add to each entry. Their kernel values stand from `at` on.
-    fn add(
-        &self,
-        entries: &mut [f64; 100],
-        weight: Weight,
-        kernel: &[f64],
-        at: usize,
-        test: Point,
-        parts: &Parts,
-        trial: Point,
-    )
-        requires { (length entries.old ≡ 100) × suits self.now × PairReads (integrand self.now) kernel.now at test trial × ready self.now test parts.now }
-        ensures { Added test.entry.table.dim trial.entry.table.dim entries.old entries.new (pair_sum (integrand self.now) weight kernel.now at test.entry trial.entry) };
+    // What a pair of points adds to each entry.
+    fn add(&self, entries: &mut [f64; 100], pair: PointPair, parts: &Parts)
+        requires { (length entries.old ≡ 100) × suits self.now × PairReads (integrand self.now) pair × ready self.now pair.test parts.now }
+        ensures { AddedAt pair.entry entries.old entries.new (value_at (integrand self.now) pair.entry) };
 }
 
 // A term's form, known to the compiler: without a factor, or with one.
 pub trait Form: Copy {
     ghost term: { Self → ℕ → Term };
 
+    // The kind is a number, as it is in `Term`.
     fn term(&self, kind: u32) -> Term
         ensures { result ≡ term self.now kind };
 }
@@ -328,25 +308,15 @@ impl<F: Form> AddPoint for Outer<F> {
     }
 
     #[inline(always)]
-    fn add(
-        &self,
-        entries: &mut [f64; 100],
-        weight: Weight,
-        kernel: &[f64],
-        at: usize,
-        test: Point,
-        parts: &Parts,
-        trial: Point,
-    ) {
+    fn add(&self, entries: &mut [f64; 100], pair: PointPair, parts: &Parts) {
         let f = self.integrand;
-        let kind = integrands::kind_of(f.first);
-        let first = self.form.term(kind);
-        let x = integrands::kind_value(kind, kernel, at, test.geometry, trial.geometry);
-        add_outer(entries, weight, first, x.factor(), test.table, trial.table);
+        let first = self.form.term(integrands::kind_of(f.first));
+        let x = pair.value(first);
+        add_outer(entries, pair, first, x.factor());
     }
 }
 
-// One term with curls.
+// One term with curls. (`add` begins as that of `Outer`: a function for the beginning would answer both the term and its value, to spare two lines.)
 #[derive(Clone, Copy)]
 pub struct Curls<F> {
     pub integrand: Integrand,
@@ -368,22 +338,12 @@ impl<F: Form> AddPoint for Curls<F> {
     }
 
     #[inline(always)]
-    fn add(
-        &self,
-        entries: &mut [f64; 100],
-        weight: Weight,
-        kernel: &[f64],
-        at: usize,
-        test: Point,
-        parts: &Parts,
-        trial: Point,
-    ) {
+    fn add(&self, entries: &mut [f64; 100], pair: PointPair, parts: &Parts) {
         let f = self.integrand;
-        let kind = integrands::kind_of(f.first);
-        let first = self.form.term(kind);
-        let x = integrands::kind_value(kind, kernel, at, test.geometry, trial.geometry);
+        let first = self.form.term(integrands::kind_of(f.first));
+        let x = pair.value(first);
         let c = x.factor();
-        add_curls(entries, weight, first, c, test, parts, trial);
+        add_curls(entries, pair, parts, first, c);
     }
 }
 
@@ -406,47 +366,17 @@ impl AddPoint for Outers {
     }
 
     #[inline(always)]
-    fn add(
-        &self,
-        entries: &mut [f64; 100],
-        weight: Weight,
-        kernel: &[f64],
-        at: usize,
-        test: Point,
-        parts: &Parts,
-        trial: Point,
-    ) {
+    fn add(&self, entries: &mut [f64; 100], pair: PointPair, parts: &Parts) {
         let f = self.integrand;
         let first = f.first;
-        let x = integrands::kind_value(
-            integrands::kind_of(first),
-            kernel,
-            at,
-            test.geometry,
-            trial.geometry,
-        );
+        let x = pair.value(first);
         let second = f.second;
-        let y = integrands::kind_value(
-            integrands::kind_of(second),
-            kernel,
-            at,
-            test.geometry,
-            trial.geometry,
-        );
-        add_outers(
-            entries,
-            weight,
-            first,
-            x.factor(),
-            second,
-            y.factor(),
-            test.table,
-            trial.table,
-        );
+        let y = pair.value(second);
+        add_outers(entries, pair, first, x.factor(), second, y.factor());
     }
 }
 
-// Two terms, of which one has curls or both have.
+// Two terms, of which one has curls or both have. (`add` begins as that of `Outers`, and what they share is a read of each term and its value.)
 #[derive(Clone, Copy)]
 pub struct Two {
     pub integrand: Integrand,
@@ -465,33 +395,12 @@ impl AddPoint for Two {
     }
 
     #[inline(always)]
-    fn add(
-        &self,
-        entries: &mut [f64; 100],
-        weight: Weight,
-        kernel: &[f64],
-        at: usize,
-        test: Point,
-        parts: &Parts,
-        trial: Point,
-    ) {
+    fn add(&self, entries: &mut [f64; 100], pair: PointPair, parts: &Parts) {
         let f = self.integrand;
         let first = f.first;
-        let x = integrands::kind_value(
-            integrands::kind_of(first),
-            kernel,
-            at,
-            test.geometry,
-            trial.geometry,
-        );
+        let x = pair.value(first);
         let second = f.second;
-        let y = integrands::kind_value(
-            integrands::kind_of(second),
-            kernel,
-            at,
-            test.geometry,
-            trial.geometry,
-        );
-        add_two(entries, weight, first, x, second, y, test, trial);
+        let y = pair.value(second);
+        add_two(entries, pair, first, x, second, y);
     }
 }

@@ -68,14 +68,6 @@ pub fn read_element(words: &mut Words<'_>) -> io::Result<Element> {
     })
 }
 
-// A recorded element is that of triangles, and stands for quads too where there are none.
-fn on_both(element: Element) -> Elements {
-    Elements {
-        triangle: element,
-        quad: element,
-    }
-}
-
 /// The head of a case: what planning is given, but for the factors of its terms. Digits that each program reads for itself stand before these.
 #[derive(Clone, Copy)]
 pub struct Head {
@@ -102,11 +94,11 @@ impl Head {
         })
     }
 
-    /// What planning is given besides the mesh: the factors are the next words.
+    /// What planning is given besides the mesh: the factors are the next words. A recorded element is that of triangles, and stands for quads too where there are none.
     pub fn read_assembly(self, words: &mut Words<'_>) -> io::Result<Assembly> {
         Ok(Assembly {
-            test: on_both(self.test),
-            trial: on_both(self.trial),
+            test: Elements::from(self.test),
+            trial: Elements::from(self.trial),
             batch: self.batch,
             integrand: self.forms.read_factors(words)?,
         })

@@ -10,8 +10,9 @@ ghost use Rattle.plans.specs.Lent.{lists_lent, SameLists};
 ghost use Rattle.planning.specs.Arguments.{planning_with};
 ghost use Rattle.runs.specs.Runs.{begun, found, accepted, refused as not_accepted};
 ghost use Rattle.refusals.specs.Numbers.{number_of};
-ghost use Rattle.boundary_assemblers.specs.Forms.{run_of, plan_lent, entries_lent, answer_of, SameLists as SameEntries};
-ghost use Rattle.replay.specs.Encoding.{part_of, list_in, distant_in, touching_in, call_of, call_at, calls_of, call_count, answer_numbers};
+ghost use Rattle.scatter.specs.Lent.{SameLists as SameEntries};
+ghost use Rattle.boundary_assemblers.specs.Forms.{run_of, plan_lent, entries_lent, answer_of};
+ghost use Rattle.replay.specs.Encoding.{part_of, list_in, distant_in, touching_in, call_of, call_at, call_count, answer_numbers};
 ghost use Rattle.replay.specs.Replay.{call_lent, calls_lent, outcome_of, replayed, replayed_matrix, replayed_lists, replayed_answers};
 ghost use Rattle.replay.specs.Laws.{standing, Answered, Going};
 

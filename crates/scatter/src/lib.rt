@@ -8,6 +8,7 @@ ghost use Rattle.std.proofs.lemmas.List.Edits.{sets};
 ghost use Rattle.numbers.specs.Floats.{◌!◌};
 ghost use Rattle.scatter.specs.Adding.{add_local, local_rows, local_columns, local_values};
 ghost use Rattle.scatter.specs.Entries.{entry_at, AddFits, ColumnFits, add_column, HasRoom};
+ghost use Rattle.scatter.specs.Lent.{SameLists};
 
 use numbers::wide;
 
@@ -79,8 +80,7 @@ impl EntryLists<'_> {
         ensures columns { self.new.columns.now ≡ sets self.old.columns.now at (local_columns local.entry.test_dofs.now local.entry.trial_dofs.now) }
         ensures values { self.new.values.now ≡ sets self.old.values.now at
             (local_values (entry_at local.entry.entries.now (length local.entry.test_dofs.now)) (length local.entry.test_dofs.now) (length local.entry.trial_dofs.now)) }
-        ensures same_lists { (self.new.rows.ghost_name ≡ self.old.rows.ghost_name)
-            × (self.new.columns.ghost_name ≡ self.old.columns.ghost_name) × (self.new.values.ghost_name ≡ self.old.values.ghost_name) }
+        ensures same_lists { SameLists self.old self.new }
     {
         let rows = &mut *self.rows;
         let columns = &mut *self.columns;

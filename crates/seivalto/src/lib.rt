@@ -1,5 +1,5 @@
 // The C interface: planning, the calls of a run and sparse rows, for a C or a Rust program to link. `host/include/seivalto.h` declares it: so each list is a
-// parameter of its own, a refusal is a number, and a run is passed and handed back by value.
+// parameter of its own, however many there are, a refusal is a number, and a run is passed and handed back by value.
 #![tactic(auto)]
 
 mod adds;

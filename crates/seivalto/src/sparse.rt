@@ -1,4 +1,4 @@
-// The entries of a run as sparse rows.
+// The entries of a run as sparse rows. (Each list is a parameter of its own, as the header declares.)
 ghost use Rattle.std.specs.Prelude.{◌≡◌};
 ghost use Rattle.runs.specs.Runs.{entry_lists};
 ghost use Rattle.sparse_lists.specs.Sparse.{sparse_lists, sparse_rows, sparse_written};

@@ -14,6 +14,7 @@ pub struct View<'a> {
     pub basis: usize,
 }
 
+// `new` is one of the thin functions that the paper asks for, as is that of `Table`: one for both would take a struct of the four fields that they share.
 impl<'a> View<'a> {
     pub fn new(
         values: &'a [f64],

@@ -89,14 +89,8 @@ fn numbers_text(job: JobNumbers, vertex_list: &[u32], edge_list: &[u32]) -> Text
         cell_edges: &edge_list[..3 * cells],
     };
     let assembly = Assembly {
-        test: Elements {
-            triangle: job.test,
-            quad: job.test,
-        },
-        trial: Elements {
-            triangle: job.trial,
-            quad: job.trial,
-        },
+        test: Elements::from(job.test),
+        trial: Elements::from(job.trial),
         batch: job.batch,
         integrand: Integrand {
             terms: 1,
@@ -114,12 +108,8 @@ pub fn worklist_text(bytes: &[u8]) -> Text
     // Of fixed size, as nothing here allocates: the most cells that a job may have.
     let mut vertex_list = [0; 3 * CELLS];
     let mut edge_list = [0; 3 * CELLS];
-    match read_job(
-        bytes,
-        Some(MOST_WORKLIST_CELLS),
-        &mut vertex_list,
-        &mut edge_list,
-    ) {
+    let limit = Some(MOST_WORKLIST_CELLS);
+    match read_job(bytes, limit, &mut vertex_list, &mut edge_list) {
         Ok(job) => numbers_text(job, &vertex_list, &edge_list),
         Err(refusal) => refused_text(refusal.number()),
     }

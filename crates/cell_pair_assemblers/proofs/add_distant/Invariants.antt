@@ -6,7 +6,7 @@ use Rattle.cell_pair_assemblers.specs.Facts.{distant_rows, distant_sum}
 use Rattle.cell_pair_assemblers.proofs.add_distant.Given as goal
 
 abbrev pub invariant-loop-t : goal.invariant-loop-t
-invariant-loop-t g l = Held l.test_dim l.trial_dim l.held (λ i j. distant_rows l.fn.f (distant_of l.lent) i j l.t)
+invariant-loop-t g l = Held l.fn.local.test_dim l.fn.local.trial_dim l.held (λ i j. distant_rows l.fn.local.integrand (distant_of l.lent) i j l.t)
 
 abbrev pub invariant-loop-r : goal.invariant-loop-r
-invariant-loop-r g l = Held l.test_dim l.trial_dim l.held (λ i j. distant_sum l.fn.f (distant_of l.lent) i j l.t l.r)
+invariant-loop-r g l = Held l.fn.local.test_dim l.fn.local.trial_dim l.held (λ i j. distant_sum l.fn.local.integrand (distant_of l.lent) i j l.t l.r)

@@ -7,7 +7,7 @@ use Rattle.cell_pair_assemblers.specs.Facts.{touching_begin, touching_once, touc
 use Rattle.cell_pair_assemblers.proofs.add_touching.Goals as goal
 
 pub loop-q-init : goal.loop-q-init
-loop-q-init g c = rw c.requires.1 (touching_begin c.args.f (touching_of c.args.lent) c.requires.0.test_few c.requires.0.trial_few)
+loop-q-init g c = rw c.requires.1 (touching_begin c.args.local.integrand (touching_of c.args.lent) c.requires.0.test_few c.requires.0.trial_few)
 
 pub at-test-requires : goal.at-test-requires
 at-test-requires g c = rw c.test-tests.ensures (touching_geometry c.requires.0 c.loop-q.q c.loop-q-test.true).0
@@ -18,8 +18,8 @@ at-trial-requires g c = rw c.trial-trials.ensures (touching_geometry c.requires.
 pub bounds-lent-q : goal.bounds-lent-q
 bounds-lent-q g c = (touching_geometry c.requires.0 c.loop-q.q c.loop-q-test.true).2
 
-pub overflow_mul-width : goal.overflow_mul-width
-overflow_mul-width g c = rw c.kernel_width-width.ensures (omega (arith, small_kernel c.args.f c.loop-q.q (omega (arith, c.loop-q-test.true, c.requires.0.count))))
+pub overflow_mul-pair : goal.overflow_mul-pair
+overflow_mul-pair g c = rw c.kernel_width-width.ensures (omega (arith, small_kernel c.args.local.integrand c.loop-q.q (omega (arith, c.loop-q-test.true, c.requires.0.count))))
 
 pub parts-parts-requires : goal.parts-parts-requires
 parts-parts-requires g c = rw (c.at-test.ensures, c.test-tests.ensures, c.table_rows-rows.ensures, c.requires.2) (c.requires.3, touching_test_table c.requires.0 c.loop-q.q c.loop-q-test.true, refl)
@@ -44,9 +44,9 @@ pub loop-q-preserved : goal.loop-q-preserved
 loop-q-preserved g c =
     let added = rw (c.at-test.ensures, c.at-trial.ensures, c.test-tests.ensures, c.trial-trials.ensures, c.requires.2) at c.add.ensures in
     held_added _ c.loop-q.invariant added
-    (λ i j l b. touching_once c.args.f (touching_of c.args.lent) i j c.loop-q.q _ _ _ _ refl refl c.kernel_width-width.ensures c.table_rows-rows.ensures refl)
+    (λ i j l b. touching_once c.args.local.integrand (touching_of c.args.lent) i j c.loop-q.q _ _ _ _ refl refl c.kernel_width-width.ensures c.table_rows-rows.ensures refl)
 
 pub returns : goal.returns
 returns g c =
     let end : c.loop-q.q ≡ c.args.lent.points = omega (arith, c.loop-q-test.false) in
-    held_as (rw end at c.loop-q.invariant) (λ i j l b. touching_end c.args.f (touching_of c.args.lent) i j)
+    held_as (rw end at c.loop-q.invariant) (λ i j l b. touching_end c.args.local.integrand (touching_of c.args.lent) i j)

@@ -5,4 +5,4 @@ use Rattle.cell_pair_assemblers.specs.Facts.{touching_sum}
 use Rattle.cell_pair_assemblers.proofs.add_touching.Given as goal
 
 abbrev pub invariant-loop-q : goal.invariant-loop-q
-invariant-loop-q g l = Held l.test_dim l.trial_dim l.entries (λ i j. touching_sum l.fn.f (touching_of l.lent) i j l.q)
+invariant-loop-q g l = Held l.fn.local.test_dim l.fn.local.trial_dim l.entries (λ i j. touching_sum l.fn.local.integrand (touching_of l.lent) i j l.q)

@@ -1,5 +1,4 @@
 -- `planning::write_side` meets its contract: there are as many cells as kinds. Assumes nothing.
-use Rattle.planning.specs.Plan.{SideWritten}
 use Rattle.planning.proofs.write_side.Goals as goal
 
 pub assign_dofs-requires : goal.assign_dofs-requires

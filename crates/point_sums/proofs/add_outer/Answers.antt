@@ -12,6 +12,6 @@ add_values-requires-clause-may_bring c = λ j l. let reach = table_reach c.requi
 pub returns : goal.returns
 returns c =
     c.add_values.ensures _ (λ i j t x li lj b v.
-    let row : t ≡ row_of c.args.trial j 0 = search rules in
+    let row : t ≡ row_of c.args.pair.trial.table j 0 = search rules in
     let value : x ≡ factored c.args.term (c.scale_rows.new.scaled ! i ⊗ t) = search rules in
     rw (value, row, c.scale_rows.ensures i li) refl)

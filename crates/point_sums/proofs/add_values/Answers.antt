@@ -13,7 +13,7 @@ loop-i-init g c = record { size = c.loop-j.invariant.size; mapped = λ h e. mapp
 
 pub loop-i-preserved : goal.loop-i-preserved
 loop-i-preserved g c =
-    let place : c.loop-i.i + c.args.test_dim * c.loop-j.j < 100 = hundred_place c.args.test_dim c.loop-i.i c.loop-j.j c.requires.sizes.1 c.loop-i-test.true (omega (arith, c.loop-j-test.true, c.requires.sizes.2)) in
+    let place : c.loop-i.i + c.args.pair.test.table.dim * c.loop-j.j < 100 = hundred_place c.args.pair.test.table.dim c.loop-i.i c.loop-j.j c.requires.sizes.1 c.loop-i-test.true (omega (arith, c.loop-j-test.true, c.requires.sizes.2)) in
     record {
       size = search rules;
       mapped = λ h e. mapped_turn (c.loop-i.invariant.mapped h e) (omega arith) (omega (arith, place, c.loop-i.invariant.size)) (rw (e _ _ c.loop-i-test.true c.value.ensures) refl);
@@ -21,7 +21,7 @@ loop-i-preserved g c =
 
 pub loop-j-preserved : goal.loop-j-preserved
 loop-j-preserved g c =
-    let end : c.loop-i.i ≡ c.args.test_dim = omega (arith, c.loop-i-test.false) in
+    let end : c.loop-i.i ≡ c.args.pair.test.table.dim = omega (arith, c.loop-i-test.false) in
     record {
       size = c.loop-i.invariant.size;
       added = λ u e. added_turn (c.loop-j.invariant.added u e)
@@ -31,5 +31,5 @@ loop-j-preserved g c =
 
 pub returns : goal.returns
 returns g c u e =
-    let end : c.loop-j.j ≡ c.args.trial_dim = omega (arith, c.loop-j-test.false) in
+    let end : c.loop-j.j ≡ c.args.pair.trial.table.dim = omega (arith, c.loop-j-test.false) in
     rw end at c.loop-j.invariant.added u e

@@ -12,8 +12,8 @@ invariant-loop-j g l =
     record {
       size : length l.entries ≡ 100;
       added : (u : ℕ → ℕ → Float)
-          → ((i j : ℕ) (t : _) (x : Float) → i < l.test_dim → j < l.trial_dim → goal.B-post g l.brings j t → goal.V-post g l.value i t x → x ≡ u i j)
-          → Added l.test_dim l.j l.initial.entries l.entries (λ (i j : ℕ). weighed l.weight (u i j));
+          → ((i j : ℕ) (t : _) (x : Float) → i < l.pair.test.table.dim → j < l.pair.trial.table.dim → goal.B-post g l.brings j t → goal.V-post g l.value i t x → x ≡ u i j)
+          → Added l.pair.test.table.dim l.j l.initial.entries l.entries (λ (i j : ℕ). weighed l.pair.weight (u i j));
     }
 
 abbrev pub invariant-loop-i : goal.invariant-loop-i

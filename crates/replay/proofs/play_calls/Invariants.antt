@@ -4,7 +4,8 @@ use mathlib.Core.Path.{◌≡◌}
 use lib.ListN.{length}
 use Rattle.replay.specs.Encoding.{calls_of}
 use Rattle.replay.specs.Laws.{standing, Going}
-use Rattle.boundary_assemblers.specs.Forms.{run_of, plan_lent, entries_lent, SameLists}
+use Rattle.scatter.specs.Lent.{SameLists}
+use Rattle.boundary_assemblers.specs.Forms.{run_of, plan_lent, entries_lent}
 use Rattle.replay.proofs.play_calls.Given as goal
 
 abbrev pub invariant-loop-k : goal.invariant-loop-k

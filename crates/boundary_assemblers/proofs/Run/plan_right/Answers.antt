@@ -5,13 +5,13 @@ use Rattle.boundary_assemblers.specs.RunFacts.{few_kinds, places_are}
 use Rattle.std.proofs.Common.{◌∙◌}
 use Rattle.boundary_assemblers.proofs.Run.plan_right.Goals as goal
 
-pub dofs_on-test_places-requires : goal.dofs_on-test_places-requires
-dofs_on-test_places-requires c = few_kinds c.requires
+pub places-test_places-requires : goal.places-test_places-requires
+places-test_places-requires c = few_kinds c.requires
 
-pub dofs_on-trial_places-requires : goal.dofs_on-trial_places-requires
-dofs_on-trial_places-requires c = few_kinds c.requires
+pub places-trial_places-requires : goal.places-trial_places-requires
+places-trial_places-requires c = few_kinds c.requires
 
 pub returns : goal.returns
 unfolding plan_right every ◌and◌
 returns c =
-    simp (c.dofs_on-test_places.ensures ∙ places_are c.requires c.args.self.now.numbers.test, c.dofs_on-trial_places.ensures ∙ places_are c.requires c.args.self.now.numbers.trial, c.wide-2.ensures, c.wide.ensures, c.pair_count.ensures)
+    simp (c.places-test_places.ensures ∙ places_are c.requires c.args.self.now.numbers.test, c.places-trial_places.ensures ∙ places_are c.requires c.args.self.now.numbers.trial, c.wide-2.ensures, c.wide.ensures, c.pair_count.ensures)

@@ -19,5 +19,5 @@ plan_right-requires c = kinds_matched _ _ (passed c.ranges_right.ensures c.if-no
 pub returns : goal.returns
 unfolding ◌and◌
 returns c =
-    all_read _ _ _ _ _ (passed c.ranges_right.ensures c.if-not-ranges_right.false-raw) (passed c.kinds_fit.ensures c.if-not-kinds_fit.false-raw)
+    all_read _ _ _ _ (passed c.ranges_right.ensures c.if-not-ranges_right.false-raw) (passed c.kinds_fit.ensures c.if-not-kinds_fit.false-raw)
     (simp (c.counts_right.ensures, c.plan_right.ensures))

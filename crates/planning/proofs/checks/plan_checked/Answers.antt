@@ -33,17 +33,17 @@ cells_right-requires c = (fine _ (sym c.in_ok-mesh_refusal.ensures))
 pub returns-then-not-cells_right : goal.returns-then-not-cells_right
 returns-then-not-cells_right c = mesh_passes _ _ c.in_ok-mesh_refusal.ensures (passed (dims_by _ _ c.count_kind-triangles.ensures c.count_kind-quads.ensures c.dims_right.ensures) c.if-not-dims_right.false-raw then passed c.batch_right.ensures c.if-not-batch_right.false-raw then passed c.integrand_right.ensures c.if-not-integrand_right.false-raw then refused (turned (c.cells_right.ensures) c.if-not-cells_right.true-raw))
 
-pub dof_places-rows-requires : goal.dof_places-rows-requires
-dof_places-rows-requires c = rw (c.count_kind-triangles.ensures, c.count_kind-quads.ensures) ((kinds_few _ (fine _ (sym c.in_ok-mesh_refusal.ensures))).1, (kinds_few _ (fine _ (sym c.in_ok-mesh_refusal.ensures))).2, rw (c.count_kind-triangles.ensures, c.count_kind-quads.ensures) at (both_right _ _ _ _ (passed c.dims_right.ensures c.if-not-dims_right.false-raw)).0)
+pub places-rows-requires : goal.places-rows-requires
+places-rows-requires c = rw (c.count_kind-triangles.ensures, c.count_kind-quads.ensures) ((kinds_few _ (fine _ (sym c.in_ok-mesh_refusal.ensures))).1, (kinds_few _ (fine _ (sym c.in_ok-mesh_refusal.ensures))).2)
 
-pub dof_places-columns-requires : goal.dof_places-columns-requires
-dof_places-columns-requires c = rw (c.count_kind-triangles.ensures, c.count_kind-quads.ensures) ((kinds_few _ (fine _ (sym c.in_ok-mesh_refusal.ensures))).1, (kinds_few _ (fine _ (sym c.in_ok-mesh_refusal.ensures))).2, rw (c.count_kind-triangles.ensures, c.count_kind-quads.ensures) at (both_right _ _ _ _ (passed c.dims_right.ensures c.if-not-dims_right.false-raw)).1)
+pub places-columns-requires : goal.places-columns-requires
+places-columns-requires c = rw (c.count_kind-triangles.ensures, c.count_kind-quads.ensures) ((kinds_few _ (fine _ (sym c.in_ok-mesh_refusal.ensures))).1, (kinds_few _ (fine _ (sym c.in_ok-mesh_refusal.ensures))).2)
 
 pub lengths_right-requires : goal.lengths_right-requires
-lengths_right-requires c = ((fine _ (sym c.in_ok-mesh_refusal.ensures)).few_cells, (places_few_by _ (fine _ (sym c.in_ok-mesh_refusal.ensures)) _ c.count_kind-triangles.ensures c.count_kind-quads.ensures (both_right _ _ _ _ (passed c.dims_right.ensures c.if-not-dims_right.false-raw)).0 c.dof_places-rows.ensures), (places_few_by _ (fine _ (sym c.in_ok-mesh_refusal.ensures)) _ c.count_kind-triangles.ensures c.count_kind-quads.ensures (both_right _ _ _ _ (passed c.dims_right.ensures c.if-not-dims_right.false-raw)).1 c.dof_places-columns.ensures))
+lengths_right-requires c = ((fine _ (sym c.in_ok-mesh_refusal.ensures)).few_cells, (places_few_by _ (fine _ (sym c.in_ok-mesh_refusal.ensures)) _ c.count_kind-triangles.ensures c.count_kind-quads.ensures (both_right _ _ _ _ (passed c.dims_right.ensures c.if-not-dims_right.false-raw)).0 c.places-rows.ensures), (places_few_by _ (fine _ (sym c.in_ok-mesh_refusal.ensures)) _ c.count_kind-triangles.ensures c.count_kind-quads.ensures (both_right _ _ _ _ (passed c.dims_right.ensures c.if-not-dims_right.false-raw)).1 c.places-columns.ensures))
 
 pub returns-then-not-lengths_right : goal.returns-then-not-lengths_right
-returns-then-not-lengths_right c = mesh_passes _ _ c.in_ok-mesh_refusal.ensures (passed (dims_by _ _ c.count_kind-triangles.ensures c.count_kind-quads.ensures c.dims_right.ensures) c.if-not-dims_right.false-raw then passed c.batch_right.ensures c.if-not-batch_right.false-raw then passed c.integrand_right.ensures c.if-not-integrand_right.false-raw then passed (c.cells_right.ensures) c.if-not-cells_right.false-raw then refused (turned (c.lengths_right.ensures ∙ lengths_by_lem _ _ _ _ (places_by _ (fine _ (sym c.in_ok-mesh_refusal.ensures)) _ c.count_kind-triangles.ensures c.count_kind-quads.ensures c.dof_places-rows.ensures) (places_by _ (fine _ (sym c.in_ok-mesh_refusal.ensures)) _ c.count_kind-triangles.ensures c.count_kind-quads.ensures c.dof_places-columns.ensures)) c.if-not-lengths_right.true-raw))
+returns-then-not-lengths_right c = mesh_passes _ _ c.in_ok-mesh_refusal.ensures (passed (dims_by _ _ c.count_kind-triangles.ensures c.count_kind-quads.ensures c.dims_right.ensures) c.if-not-dims_right.false-raw then passed c.batch_right.ensures c.if-not-batch_right.false-raw then passed c.integrand_right.ensures c.if-not-integrand_right.false-raw then passed (c.cells_right.ensures) c.if-not-cells_right.false-raw then refused (turned (c.lengths_right.ensures ∙ lengths_by_lem _ _ _ _ (places_by _ (fine _ (sym c.in_ok-mesh_refusal.ensures)) _ c.count_kind-triangles.ensures c.count_kind-quads.ensures c.places-rows.ensures) (places_by _ (fine _ (sym c.in_ok-mesh_refusal.ensures)) _ c.count_kind-triangles.ensures c.count_kind-quads.ensures c.places-columns.ensures)) c.if-not-lengths_right.true-raw))
 
 pub returns : goal.returns
-returns c = mesh_passes _ _ c.in_ok-mesh_refusal.ensures (passed (dims_by _ _ c.count_kind-triangles.ensures c.count_kind-quads.ensures c.dims_right.ensures) c.if-not-dims_right.false-raw then passed c.batch_right.ensures c.if-not-batch_right.false-raw then passed c.integrand_right.ensures c.if-not-integrand_right.false-raw then passed (c.cells_right.ensures) c.if-not-cells_right.false-raw then passed (c.lengths_right.ensures ∙ lengths_by_lem _ _ _ _ (places_by _ (fine _ (sym c.in_ok-mesh_refusal.ensures)) _ c.count_kind-triangles.ensures c.count_kind-quads.ensures c.dof_places-rows.ensures) (places_by _ (fine _ (sym c.in_ok-mesh_refusal.ensures)) _ c.count_kind-triangles.ensures c.count_kind-quads.ensures c.dof_places-columns.ensures)) c.if-not-lengths_right.false-raw then accepted)
+returns c = mesh_passes _ _ c.in_ok-mesh_refusal.ensures (passed (dims_by _ _ c.count_kind-triangles.ensures c.count_kind-quads.ensures c.dims_right.ensures) c.if-not-dims_right.false-raw then passed c.batch_right.ensures c.if-not-batch_right.false-raw then passed c.integrand_right.ensures c.if-not-integrand_right.false-raw then passed (c.cells_right.ensures) c.if-not-cells_right.false-raw then passed (c.lengths_right.ensures ∙ lengths_by_lem _ _ _ _ (places_by _ (fine _ (sym c.in_ok-mesh_refusal.ensures)) _ c.count_kind-triangles.ensures c.count_kind-quads.ensures c.places-rows.ensures) (places_by _ (fine _ (sym c.in_ok-mesh_refusal.ensures)) _ c.count_kind-triangles.ensures c.count_kind-quads.ensures c.places-columns.ensures)) c.if-not-lengths_right.false-raw then accepted)

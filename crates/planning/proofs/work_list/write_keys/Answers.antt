@@ -1,6 +1,5 @@
 -- See Invariants.antt. Assumes nothing.
-use Rattle.std.proofs.Common.{arith}
-use Rattle.planning.specs.Work.{keyed_none, keyed_turn}
+use Rattle.planning.specs.Work.{keyed_none}
 use Rattle.planning.proofs.work_list.write_keys.Goals as goal
 
 pub loop-i-init : goal.loop-i-init

@@ -7,8 +7,10 @@ use Rattle.point_sums.specs.Facts.{added_as}
 use Rattle.point_sums.specs.Weights.{weighed}
 use Rattle.point_sums.proofs.CurlsAddPoint.add.Goals as goal
 
-pub kind_value-x-requires : goal.kind_value-x-requires
-kind_value-x-requires g c = rw c.kind_of-kind.ensures (first_reads c.args.self.now.integrand c.requires.2.right c.requires.2.kernel)
+pub value-x-requires : goal.value-x-requires
+value-x-requires g c =
+    let f = c.args.self.now.integrand in
+    rw (c.term-first.ensures, c.kind_of.ensures, c.requires.1.1) (first_reads f c.requires.2.right c.requires.2.kernel)
 
 pub add_curls-requires : goal.add_curls-requires
 add_curls-requires g c =
@@ -17,7 +19,7 @@ add_curls-requires g c =
 pub returns : goal.returns
 returns g c =
     let f = c.args.self.now.integrand in
-    let at = rw c.kind_of-kind.ensures at c.kind_value-x.ensures in
+    let at = rw (c.term-first.ensures, c.kind_of.ensures, c.requires.1.1) at c.value-x.ensures in
     let curls = value_curls (one_curls f c.requires.1.0 c.requires.1.2) at in
-    let sums = rw (c.factor-c.ensures, c.term-first.ensures, c.kind_of-kind.ensures, c.requires.1.1) at c.add_curls.ensures in
-    added_as (sums _ curls) (λ i j. ap (weighed c.args.weight) (one_term f _ _ _ _ _ c.requires.1.0))
+    let sums = rw (c.factor-c.ensures, c.term-first.ensures, c.kind_of.ensures, c.requires.1.1) at c.add_curls.ensures in
+    added_as (sums _ curls) (λ i j. ap (weighed c.args.pair.weight) (one_term f _ _ _ _ _ c.requires.1.0))

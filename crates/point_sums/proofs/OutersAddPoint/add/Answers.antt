@@ -7,21 +7,21 @@ use Rattle.point_sums.specs.Facts.{added_as, first_other, second_other}
 use Rattle.point_sums.specs.Weights.{weighed}
 use Rattle.point_sums.proofs.OutersAddPoint.add.Goals as goal
 
-pub kind_value-x-requires : goal.kind_value-x-requires
-kind_value-x-requires c = rw c.kind_of.ensures (first_reads c.args.self.now.integrand c.requires.2.right c.requires.2.kernel)
+pub value-x-requires : goal.value-x-requires
+value-x-requires c = first_reads c.args.self.now.integrand c.requires.2.right c.requires.2.kernel
 
-pub kind_value-y-requires : goal.kind_value-y-requires
-kind_value-y-requires c =
-    rw c.kind_of-2.ensures (second_reads c.args.self.now.integrand c.requires.2.right c.requires.2.kernel (second_is_read c.args.self.now.integrand c.requires.1.0))
+pub value-y-requires : goal.value-y-requires
+value-y-requires c =
+    let f = c.args.self.now.integrand in
+    second_reads f c.requires.2.right c.requires.2.kernel (second_is_read f c.requires.1.0)
 
 pub returns : goal.returns
 returns c =
     let f = c.args.self.now.integrand in
-    let at = rw c.kind_of.ensures at c.kind_value-x.ensures in
-    let bt = rw c.kind_of-2.ensures at c.kind_value-y.ensures in
+    let pair = c.args.pair in
     let sums = rw (c.factor.ensures, c.factor-2.ensures) at c.add_outers.ensures in
-    added_as sums (λ i j. ap (weighed c.args.weight)
+    added_as sums (λ i j. ap (weighed pair.weight)
     (ap₂ ◌⊕◌
-    (term_outer f.first _ _ _ c.args.test.geometry c.args.trial.geometry (first_other f c.requires.1.1) at)
-    (term_outer f.second _ _ _ c.args.test.geometry c.args.trial.geometry (second_other f (second_is_read f c.requires.1.0) c.requires.1.1) bt)
+    (term_outer f.first _ _ _ pair.test.geometry pair.trial.geometry (first_other f c.requires.1.1) c.value-x.ensures)
+    (term_outer f.second _ _ _ pair.test.geometry pair.trial.geometry (second_other f (second_is_read f c.requires.1.0) c.requires.1.1) c.value-y.ensures)
     ∙ two_terms f _ _ _ _ _ c.requires.1.0))

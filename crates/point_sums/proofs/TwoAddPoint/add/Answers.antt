@@ -1,23 +1,24 @@
 -- `point_sums::Two` adds its two terms, of any kind. Assumes nothing.
-use Rattle.std.proofs.Common.{sym, ◌∙◌, ap, arith}
+use Rattle.std.proofs.Common.{ap, arith}
 use Rattle.integrands.specs.Columns.{first_reads, second_reads, first_rows, second_rows}
 use Rattle.integrands.specs.ValueFacts.{two_terms, second_is_read, curls_rows}
 use Rattle.point_sums.specs.Facts.{added_as}
 use Rattle.point_sums.specs.Weights.{weighed}
 use Rattle.point_sums.proofs.TwoAddPoint.add.Goals as goal
 
-pub kind_value-x-requires : goal.kind_value-x-requires
-kind_value-x-requires c = rw c.kind_of.ensures (first_reads c.args.self.now.integrand c.requires.2.right c.requires.2.kernel)
+pub value-x-requires : goal.value-x-requires
+value-x-requires c = first_reads c.args.self.now.integrand c.requires.2.right c.requires.2.kernel
 
-pub kind_value-y-requires : goal.kind_value-y-requires
-kind_value-y-requires c =
-    rw c.kind_of-2.ensures (second_reads c.args.self.now.integrand c.requires.2.right c.requires.2.kernel (second_is_read c.args.self.now.integrand c.requires.1))
-
-pub add_two-requires : goal.add_two-requires
-add_two-requires c =
+pub value-y-requires : goal.value-y-requires
+value-y-requires c =
     let f = c.args.self.now.integrand in
-    let rows = curls_rows c.kind_value-x.ensures (λ e. first_rows f (sym c.kind_of.ensures ∙ e)) in
-    let more = curls_rows c.kind_value-y.ensures (λ e. second_rows f (second_is_read f c.requires.1) (sym c.kind_of-2.ensures ∙ e)) in (
+    second_reads f c.requires.2.right c.requires.2.kernel (second_is_read f c.requires.1)
+
+pub add_two-requires-clause-reads : goal.add_two-requires-clause-reads
+add_two-requires-clause-reads c =
+    let f = c.args.self.now.integrand in
+    let rows = curls_rows c.value-x.ensures (first_rows f) in
+    let more = curls_rows c.value-y.ensures (second_rows f (second_is_read f c.requires.1)) in (
       c.requires.0,
       c.requires.2.test,
       c.requires.2.trial,
@@ -26,7 +27,4 @@ add_two-requires c =
     )
 
 pub returns : goal.returns
-returns c =
-    let f = c.args.self.now.integrand in
-    added_as (c.add_two.ensures _ (rw c.kind_of.ensures at c.kind_value-x.ensures) (rw c.kind_of-2.ensures at c.kind_value-y.ensures))
-    (λ i j. ap (weighed c.args.weight) (two_terms f _ _ _ _ _ c.requires.1))
+returns c = added_as c.add_two.ensures (λ i j. ap (weighed c.args.pair.weight) (two_terms c.args.self.now.integrand _ _ _ _ _ c.requires.1))

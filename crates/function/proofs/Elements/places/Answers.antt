@@ -1,10 +1,10 @@
--- `boundary_assemblers::calls::dofs_on` meets its contract: of any u32 the products stay below 2^47. Assumes nothing.
+-- `function::Elements::places` meets its contract: of any u32 the products stay below 2^47. Assumes nothing.
 use Prim.Native.Nat.{ℕ, ◌*◌, ◌≤◌}
 use native.Mathlib.Nat.{mul-le-mul}
 use native.Mathlib.Omega.{arith}
 use mathlib.Core.Path.{refl}
 use Rattle.function.specs.Elements.{dim_of, element_of}
-use Rattle.boundary_assemblers.proofs.calls.dofs_on.Goals as goal
+use Rattle.function.proofs.Elements.places.Goals as goal
 
 product : (n m : ℕ) → n ≤ 2048 → m ≤ 38654705664 → n * m ≤ 79164837199872
 product n m h k = mul-le-mul h k
