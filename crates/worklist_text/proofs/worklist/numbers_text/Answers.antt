@@ -7,4 +7,4 @@ pub mesh_text-requires : goal.mesh_text-requires
 mesh_text-requires c = (c.requires.few, front refl c.requires.few)
 
 pub returns : goal.returns
-returns c = rw (front {C = c.args.job.cells} refl c.requires.few) at c.mesh_text.ensures
+returns c = rw (front {C = c.args.job.cells} refl c.requires.few, c.from.ensures, c.from-2.ensures) at c.mesh_text.ensures
