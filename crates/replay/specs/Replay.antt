@@ -1,6 +1,6 @@
 -- What `replay` hands back and leaves: the position, the matrix, the entry lists and the answers of the machine of the mesh; nothing is played where planning
 -- refuses. Assumes nothing.
-use Rattle.std.specs.Prelude.{ℕ, zero, suc, Bool, List, Float, Result, Ok, Err}
+use Rattle.std.specs.Prelude.{◌≡◌, ℕ, zero, suc, Bool, List, Float, Result, Ok, Err}
 use Rattle.refusals.specs.declared.Refusal.{Refusal}
 use Rattle.refusals.specs.Numbers.{number_of}
 use Rattle.lent_numbers.specs.Forms.{touching_of, distant_of}
@@ -13,7 +13,9 @@ use Rattle.boundary_assemblers.specs.declared.Run.{Run as TheRun}
 use Rattle.boundary_assemblers.specs.Forms.{run_of}
 use Rattle.replay.specs.declared.Call.{Call as LentCall}
 use Rattle.replay.specs.declared.Call.TheVariants.{Look, AddDistant, AddTouching, AddEntries}
+use Rattle.scatter.specs.Lent.{SameLists}
 use Rattle.replay.specs.declared.Calls.{Calls}
+use Rattle.replay.specs.declared.Written.{Written}
 use Rattle.replay.specs.Encoding.{calls_of, call_count, put_answers}
 
 -- What it answers: the run after the last call, or planning's refusal
@@ -35,6 +37,12 @@ call_lent (AddEntries a) = adds_entries (touching_of a)
 -- the calls that are played, where the answers have room for them
 abbrev pub calls_lent : Calls → List ℕ → List Call
 calls_lent calls answers = calls_of calls.numbers.now calls.pool.now (call_count calls.numbers.now answers)
+
+-- what is written is lent as it was
+pub record SameWritten (old new : Written) : Type 0 where
+  pub matrix : new.matrix.ghost_name ≡ old.matrix.ghost_name
+  pub entries : SameLists old.entries new.entries
+  pub answers : new.answers.ghost_name ≡ old.answers.ghost_name
 
 -- 0 is no refusal
 abbrev pub outcome : ℕ → Run → Outcome

@@ -13,7 +13,7 @@ ghost use Rattle.refusals.specs.Numbers.{number_of};
 ghost use Rattle.scatter.specs.Lent.{SameLists as SameEntries};
 ghost use Rattle.boundary_assemblers.specs.Forms.{run_of, plan_lent, entries_lent, answer_of};
 ghost use Rattle.replay.specs.Encoding.{part_of, list_in, distant_in, touching_in, call_of, call_at, call_count, answer_numbers};
-ghost use Rattle.replay.specs.Replay.{call_lent, calls_lent, outcome_of, replayed, replayed_matrix, replayed_lists, replayed_answers};
+ghost use Rattle.replay.specs.Replay.{call_lent, calls_lent, SameWritten, outcome_of, replayed, replayed_matrix, replayed_lists, replayed_answers};
 ghost use Rattle.replay.specs.Laws.{standing, Answered, Going};
 
 use boundary_assemblers::Run;
@@ -128,12 +128,20 @@ impl<'a> Calls<'a> {
     }
 
     // How many are played: as many as the numbers encode whole, and no more than there is room to answer.
-    fn count(self, answers: &[u32]) -> usize
-        ensures value { result ≡ call_count self.entry.numbers.now answers.now }
-        ensures room { (11 * result ≤ length self.entry.numbers.now) × (4 * result ≤ length answers.now) }
+    fn count(self, written: &Written) -> usize
+        ensures value { result ≡ call_count self.entry.numbers.now written.now.answers.now }
+        ensures room { (11 * result ≤ length self.entry.numbers.now) × (4 * result ≤ length written.now.answers.now) }
     {
-        (self.numbers.len() / 11).min(answers.len() / 4)
+        (self.numbers.len() / 11).min(written.answers.len() / 4)
     }
+}
+
+// What calls write: the matrix, the entry lists, and the answers, four numbers a call.
+#[derive(Drop)]
+pub struct Written<'a> {
+    pub matrix: &'a mut [f64],
+    pub entries: EntryLists<'a>,
+    pub answers: &'a mut [u32],
 }
 
 // A refusal, as four numbers.
@@ -197,26 +205,20 @@ impl Call<'_> {
 
 // Plays the calls, as many as there is room to answer; their answers stand one after the other. (k is the place of a call and of its answer. With `zip` and
 // `chunks_exact_mut` nothing is known of the answers after the loop.)
-fn play_calls(
-    run: &mut Run,
-    plan: Plan,
-    calls: Calls,
-    matrix: &mut [f64],
-    lists: &mut EntryLists,
-    answers: &mut [u32],
-)
-    ensures going { Going (plan_lent plan.entry) (calls_lent calls.entry answers.old)
-        (standing (run_of run.old) matrix.old (entries_lent lists.old)) answers.old (run_of run.new) matrix.new (entries_lent lists.new) answers.new }
-    ensures same { SameEntries lists.old lists.new }
+fn play_calls(run: &mut Run, plan: Plan, calls: Calls, written: &mut Written)
+    ensures going { Going (plan_lent plan.entry) (calls_lent calls.entry written.old.answers.now)
+        (standing (run_of run.old) written.old.matrix.now (entries_lent written.old.entries)) written.old.answers.now
+        (run_of run.new) written.new.matrix.now (entries_lent written.new.entries) written.new.answers.now }
+    ensures same { SameWritten written.old written.new }
 {
-    for k in 0..calls.count(answers) {
+    for k in 0..calls.count(written) {
         let call = calls.call(k);
-        let answer = call.play(run, plan, matrix, lists);
-        answers[4 * k..4 * k + 4].copy_from_slice(&answer);
+        let answer = call.play(run, plan, written.matrix, &mut written.entries);
+        written.answers[4 * k..4 * k + 4].copy_from_slice(&answer);
     }
 }
 
-// A run of either kind.
+// A run of either kind. (A `bool`, as in the run itself and in `begun` of the definitions.)
 fn begin_run(numbers: PlanNumbers, entries: bool) -> Run
     ensures { run_of result ≡ begun entries numbers }
 {
@@ -234,25 +236,22 @@ pub fn replay(
     lists: &mut PlanLists,
     entries: bool,
     calls: Calls,
-    matrix: &mut [f64],
-    entry_lists: &mut EntryLists,
-    answers: &mut [u32],
+    written: &mut Written,
 ) -> Result<Run, Refusal>
     ensures result_value { outcome_of result ≡ replayed (planning_with (mesh_lent mesh.entry) assembly) (lists_lent lists.old) entries
-        (calls_lent calls.entry answers.old) matrix.old (entries_lent entry_lists.old) }
-    ensures matrix_after { matrix.new ≡ replayed_matrix (planning_with (mesh_lent mesh.entry) assembly) (lists_lent lists.old) entries
-        (calls_lent calls.entry answers.old) matrix.old (entries_lent entry_lists.old) }
-    ensures values_after { entries_lent entry_lists.new ≡ replayed_lists (planning_with (mesh_lent mesh.entry) assembly) (lists_lent lists.old) entries
-        (calls_lent calls.entry answers.old) matrix.old (entries_lent entry_lists.old) }
-    ensures answers_after { answers.new ≡ replayed_answers (planning_with (mesh_lent mesh.entry) assembly) (lists_lent lists.old) entries
-        (calls_lent calls.entry answers.old) matrix.old (entries_lent entry_lists.old) answers.old }
+        (calls_lent calls.entry written.old.answers.now) written.old.matrix.now (entries_lent written.old.entries) }
+    ensures matrix_after { written.new.matrix.now ≡ replayed_matrix (planning_with (mesh_lent mesh.entry) assembly) (lists_lent lists.old) entries
+        (calls_lent calls.entry written.old.answers.now) written.old.matrix.now (entries_lent written.old.entries) }
+    ensures values_after { entries_lent written.new.entries ≡ replayed_lists (planning_with (mesh_lent mesh.entry) assembly) (lists_lent lists.old) entries
+        (calls_lent calls.entry written.old.answers.now) written.old.matrix.now (entries_lent written.old.entries) }
+    ensures answers_after { written.new.answers.now ≡ replayed_answers (planning_with (mesh_lent mesh.entry) assembly) (lists_lent lists.old) entries
+        (calls_lent calls.entry written.old.answers.now) written.old.matrix.now (entries_lent written.old.entries) written.old.answers.now }
     ensures work_after { lists_lent lists.new ≡ plan_lists (planning_with (mesh_lent mesh.entry) assembly) (lists_lent lists.old) }
     ensures same_lists { SameLists lists.old lists.new }
-    ensures same_entries { SameEntries entry_lists.old entry_lists.new }
+    ensures same_written { SameWritten written.old written.new }
 {
     let numbers = plan(mesh, assembly, lists)?;
-    let written = lists.plan(mesh.kinds);
     let mut run = begin_run(numbers, entries);
-    play_calls(&mut run, written, calls, matrix, entry_lists, answers);
+    play_calls(&mut run, lists.plan(mesh.kinds), calls, written);
     Ok(run)
 }

@@ -21,6 +21,7 @@ pub struct Gathering {
 #[derive(Drop)]
 pub struct Case {
     pub assembly: Assembly,
+    // Whether the run is of entries: `replay` takes a `bool`, as the run itself.
     pub entries: bool,
     pub lengths: PlanLengths,
     pub matrix_count: usize,

@@ -9,7 +9,7 @@ mod sparse;
 
 use crate::cases::Case;
 use recorded::{EntryVecs, PlanVecs, Words};
-use replay::{Calls, replay};
+use replay::{Calls, Written, replay};
 use std::{fs, io};
 
 // What stands in the lists before the calls.
@@ -34,9 +34,11 @@ fn case_agrees(rt: &HostRuntime, words: &mut Words<'_>) -> io::Result<bool> {
             numbers: &case.calls,
             pool: &case.pool,
         },
-        &mut matrix,
-        &mut entries.lent(),
-        &mut answers,
+        &mut Written {
+            matrix: &mut matrix,
+            entries: entries.lent(),
+            answers: &mut answers,
+        },
     );
     let answer = played
         .map(|run| (run.position, run.entries))

@@ -15,12 +15,12 @@ returns-in_err-numbers c =
       answers_after = done.answers;
       work_after = search rules;
       same_lists = search rules;
-      same_entries = search rules;
+      same_written = search rules;
     }
 
 pub returns : goal.returns
 returns c =
-    let w = c.plan-written.ensures in
+    let w = c.plan-2.ensures in
     let going = rw (w.kinds, w.test_dofs, w.trial_dofs, w.work) at c.play_calls.ensures.going in
     let done = finished_begun _ _ _ _ _ _ _ _ _ _ _ _ _ _ _ (sym c.in_ok-numbers.ensures.value) c.plan.ensures.written c.begin_run-run.ensures going in
     record {
@@ -30,5 +30,5 @@ returns c =
       answers_after = done.answers;
       work_after = search rules;
       same_lists = search rules;
-      same_entries = search rules;
+      same_written = search rules;
     }
