@@ -5,7 +5,7 @@ ghost use Rattle.std.specs.Prelude.{◌≡◌};
 ghost use Rattle.numbers.specs.Floats.{finite, all_finite};
 ghost use Rattle.numbers.specs.Ranges.{all_below};
 
-// A u32 as an index: asks no proof that the number fits where it is called.
+// A u32 as an index: asks no proof that the number fits where it is called. (By `as`, which always fits: std has no `From<u32>` for usize.)
 pub fn wide(x: u32) -> usize
     ensures { result ≡ x }
 {
