@@ -1,6 +1,5 @@
 -- A point value in parts, as the code works it out: what belongs to the point, and what each basis function brings. x are the table rows of one. Assumes nothing.
 use Rattle.std.specs.Prelude.{ℕ, Bool, true, false, ◌≡◌, eqb, Float}
-use Rattle.std.specs.Float.{nan}
 use Rattle.numbers.specs.Floats.{0·0, ◌⊕◌, ◌⊗◌, ◌⊘◌}
 use Rattle.integrands.specs.declared.Geometry.{Geometry}
 use Rattle.integrands.specs.declared.KindValue.{KindValue}
@@ -40,10 +39,6 @@ curls g x = record { x0 = curl g.j3 g.j0 x; x1 = curl g.j4 g.j1 x; x2 = curl g.j
 -- one number
 abbrev pub alone : Float → Part
 alone x = record { x0 = x; x1 = 0·0; x2 = 0·0 }
-
--- what is read past the end of a list of parts
-abbrev pub no_part : Part
-no_part = record { x0 = nan; x1 = nan; x2 = nan }
 
 -- what a basis function brings: its three curls; else row 0, which has c before it on the test side
 abbrev pub test_part : KindValue → Geometry → (ℕ → Float) → Part

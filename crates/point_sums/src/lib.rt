@@ -309,8 +309,7 @@ impl<F: Form> AddPoint for Outer<F> {
 
     #[inline(always)]
     fn add(&self, entries: &mut [f64; 100], pair: PointPair, parts: &Parts) {
-        let f = self.integrand;
-        let first = self.form.term(integrands::kind_of(f.first));
+        let first = self.form.term(integrands::kind_of(self.integrand.first));
         let x = pair.value(first);
         add_outer(entries, pair, first, x.factor());
     }
@@ -339,8 +338,7 @@ impl<F: Form> AddPoint for Curls<F> {
 
     #[inline(always)]
     fn add(&self, entries: &mut [f64; 100], pair: PointPair, parts: &Parts) {
-        let f = self.integrand;
-        let first = self.form.term(integrands::kind_of(f.first));
+        let first = self.form.term(integrands::kind_of(self.integrand.first));
         let x = pair.value(first);
         let c = x.factor();
         add_curls(entries, pair, parts, first, c);
@@ -367,10 +365,8 @@ impl AddPoint for Outers {
 
     #[inline(always)]
     fn add(&self, entries: &mut [f64; 100], pair: PointPair, parts: &Parts) {
-        let f = self.integrand;
-        let first = f.first;
+        let Integrand { first, second, .. } = self.integrand;
         let x = pair.value(first);
-        let second = f.second;
         let y = pair.value(second);
         add_outers(entries, pair, first, x.factor(), second, y.factor());
     }
@@ -396,10 +392,8 @@ impl AddPoint for Two {
 
     #[inline(always)]
     fn add(&self, entries: &mut [f64; 100], pair: PointPair, parts: &Parts) {
-        let f = self.integrand;
-        let first = f.first;
+        let Integrand { first, second, .. } = self.integrand;
         let x = pair.value(first);
-        let second = f.second;
         let y = pair.value(second);
         add_two(entries, pair, first, x, second, y);
     }

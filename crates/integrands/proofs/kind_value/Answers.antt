@@ -6,12 +6,6 @@ use Rattle.numbers.specs.Floats.{◌!◌}
 use Rattle.integrands.specs.ValueFacts.{single_layer_holds, double_layer_holds, adjoint_layer, curl_curl_holds, normal_normal_holds, last_kind}
 use Rattle.integrands.proofs.kind_value.Goals as goal
 
-pub along_normal-requires : goal.along_normal-requires
-along_normal-requires c = c.requires.double c.in-1.is
-
-pub along_normal-requires-in-2 : goal.along_normal-requires-in-2
-along_normal-requires-in-2 c = c.requires.adjoint c.in-2.is
-
 pub returns-in-0 : goal.returns-in-0
 returns-in-0 c = rw c.in-0.is (single_layer_holds _ _ _ (ap (λ (x : ℕ). c.args.kernel.now ! x) (sym (zero-add c.args.at))))
 

@@ -1,5 +1,4 @@
 -- `lent_numbers::pair_lengths_right` meets its contract: no product wraps, and the tests are the definition's. Assumes nothing.
-use Rattle.std.specs.Prelude.{refl}
 use native.Mathlib.Omega.{arith}
 use Rattle.integrands.specs.Columns.{rows_some}
 use Rattle.lent_numbers.specs.Sizes.{small_kernel}
@@ -13,6 +12,3 @@ lengths_right-requires-2 c = rw c.table_rows-rows.ensures ((rows_some c.args.loc
 
 pub overflow_mul-result : goal.overflow_mul-result
 overflow_mul-result c = rw c.kernel_width-width.ensures (omega (arith, small_kernel c.args.local.integrand c.args.points c.requires.4))
-
-pub returns : goal.returns
-returns c = rw (c.lengths_right.ensures, c.lengths_right-2.ensures, c.table_rows-rows.ensures, c.kernel_width-width.ensures) refl

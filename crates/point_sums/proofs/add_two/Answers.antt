@@ -1,5 +1,5 @@
 -- `point_sums::add_two` meets its contract: what the closures give at each entry. Assumes nothing.
-use Rattle.std.proofs.Common.{◌≡◌, refl, ◌≤◌, true, rules, ap₂}
+use Rattle.std.proofs.Common.{◌≡◌, ◌≤◌, true, rules, ap₂}
 use Rattle.numbers.specs.Floats.{◌⊕◌}
 use Rattle.table.specs.Views.{row_of}
 use Rattle.integrands.specs.Parts.{has_curls, factored, trial_part, from_parts}
@@ -14,12 +14,6 @@ add_values-requires-clause-may_bring c = λ j l.
     let rows : has_curls c.args.x ≡ true → 3 ≤ c.args.pair.trial.table.rows = λ e. (c.requires.reads.3 e).1 in
     let more : has_curls c.args.y ≡ true → 3 ≤ c.args.pair.trial.table.rows = λ e. (c.requires.reads.4 e).1 in
     search rules
-
-pub bring_parts-requires : goal.bring_parts-requires
-bring_parts-requires c = (record { x0 = refl; x1 = refl; x2 = refl }, c.requires.reads.1, λ e. (c.requires.reads.3 e).0)
-
-pub bring_parts-requires-2 : goal.bring_parts-requires-2
-bring_parts-requires-2 c = (record { x0 = refl; x1 = refl; x2 = refl }, c.requires.reads.1, λ e. (c.requires.reads.4 e).0)
 
 pub returns : goal.returns
 returns c =

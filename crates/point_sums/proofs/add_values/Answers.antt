@@ -1,15 +1,9 @@
 -- See Invariants.antt. Assumes nothing.
 use Rattle.std.proofs.Common.{◌≡◌, ◌+◌, ◌*◌, ◌<◌, refl, rules}
 use native.Mathlib.Omega.{arith}
-use Rattle.lists.specs.Maps.{mapped_start, mapped_turn}
-use Rattle.integrands.specs.Columns.{hundred_place, added_none, added_turn}
+use Rattle.lists.specs.Maps.{mapped_turn}
+use Rattle.integrands.specs.Columns.{hundred_place, added_turn}
 use Rattle.point_sums.proofs.add_values.Goals as goal
-
-pub loop-j-init : goal.loop-j-init
-loop-j-init g c = record { size = c.requires.sizes.0; added = λ u e. added_none c.requires.sizes.0 }
-
-pub loop-i-init : goal.loop-i-init
-loop-i-init g c = record { size = c.loop-j.invariant.size; mapped = λ h e. mapped_start _ }
 
 pub loop-i-preserved : goal.loop-i-preserved
 loop-i-preserved g c =

@@ -1,5 +1,5 @@
 -- `point_sums::Curls` adds its one term: the kind is 3. Assumes nothing.
-use Rattle.std.proofs.Common.{ap, arith}
+use Rattle.std.proofs.Common.{ap}
 use Rattle.integrands.specs.Columns.{first_reads}
 use Rattle.integrands.specs.TermFacts.{one_curls}
 use Rattle.integrands.specs.ValueFacts.{one_term, value_curls}
@@ -11,10 +11,6 @@ pub value-x-requires : goal.value-x-requires
 value-x-requires g c =
     let f = c.args.self.now.integrand in
     rw (c.term-first.ensures, c.kind_of.ensures, c.requires.1.1) (first_reads f c.requires.2.right c.requires.2.kernel)
-
-pub add_curls-requires : goal.add_curls-requires
-add_curls-requires g c =
-    (c.requires.0, c.requires.2.test, c.requires.2.trial, omega (arith, c.requires.2.trial_rows, c.requires.1.2), c.requires.3)
 
 pub returns : goal.returns
 returns g c =
