@@ -31,8 +31,8 @@ fn both_triangles(rows: Rows, i: usize, j: usize) -> bool
     rows.is_triangle(i) & rows.is_triangle(j)
 }
 
-// The pattern of test cell i and trial cell j, if the table has it. No cell may have a vertex twice. (`pair_right` shares the `if`, and no more: a function of both
-// would take a closure for each half, with a type and a clause for each, and both would still be written out in either caller.)
+// The pattern of test cell i and trial cell j, if the table has it. No cell may have a vertex twice. (`pair_right` shares the `if`, and no more: a function of
+// both would take a closure for each half, with a type and a clause for each, and both would still be written out in either caller.)
 pub fn pattern_of(rows: Rows, i: usize, j: usize) -> Option<u32>
     requires i_in_bounds { (4 * i + 4 ≤ length rows.rows.now) × (4 * j + 4 ≤ length rows.rows.now) }
     requires i_value { (distinct_in rows.none rows.rows.now i ≡ true) × (distinct_in rows.none rows.rows.now j ≡ true) }
@@ -45,8 +45,8 @@ pub fn pattern_of(rows: Rows, i: usize, j: usize) -> Option<u32>
     }
 }
 
-// The smallest vertex that cells i and j share, of those below top; top where they share none. With `none` as top, which is above all vertices, what stands in the
-// fourth place of a triangle is no lower than what is found before it. A number and not an Option, since it is the least of a list that top begins.
+// The smallest vertex that cells i and j share, of those below top; top where they share none. With `none` as top, which is above all vertices, what stands in
+// the fourth place of a triangle is no lower than what is found before it. A number and not an Option, since it is the least of a list that top begins.
 pub fn smallest_shared(rows: Rows, top: usize, i: usize, j: usize) -> usize
     requires { (4 * i + 4 ≤ length rows.rows.now) × (4 * j + 4 ≤ length rows.rows.now) }
     ensures { result ≡ smallest_in top rows.entry.rows.now i j }

@@ -1,6 +1,6 @@
-// Writes the distant part of the work list: from the record of a pair up to all pairs, each function with a contract of one form, `Wrote ..`: the lent list is as
-// it was with these records written from a place on, and the result is the place after them. Cells are read by their rows; the groups of a side are colour by
-// colour of the triangles and then of the quads.
+// Writes the distant part of the work list: from the record of a pair up to all pairs, each function with a contract of one form, `Wrote ..`: the lent list is
+// as it was with these records written from a place on, and the result is the place after them. Cells are read by their rows; the groups of a side are colour
+// by colour of the triangles and then of the quads.
 #![tactic(auto)]
 
 ghost use Rattle.std.specs.Prelude.{◌≡◌, [], ◌∷◌, ◌+◌, ◌*◌, ◌≤◌, ◌<◌, length};
@@ -136,8 +136,8 @@ fn write_colours(
     next
 }
 
-// The groups of one kind of a side, a colour each: half 0 of the side's groups are those of the triangles, half 1 those of the quads. (A number, since a group's
-// place is reckoned from it; an enum of the two would be turned back into it there.)
+// The groups of one kind of a side, a colour each: half 0 of the side's groups are those of the triangles, half 1 those of the quads. (A number, since a
+// group's place is reckoned from it; an enum of the two would be turned back into it there.)
 #[derive(Clone, Copy)]
 struct Half<'a> {
     groups: Groups<'a>,
@@ -156,7 +156,8 @@ impl Half<'_> {
     }
 }
 
-// Each colour of the test cells of a kind against each colour of the trial cells of a kind. (By the colours' numbers, which say where in its half a group stands.)
+// Each colour of the test cells of a kind against each colour of the trial cells of a kind. (By the colours' numbers, which say where in its half a group
+// stands.)
 fn write_kinds(
     rows: Rows,
     batch: usize,
