@@ -13,7 +13,6 @@ use Rattle.cells_by_key.specs.Groups.{cells_with, part, Grouped, Below}
 use Rattle.cells_by_key.specs.GroupsFacts.{grouped_each, group_place, group_cells}
 use Rattle.cell_pairs.specs.Patterns.{smallest_shared, patterns_right}
 use Rattle.triangle_patterns.specs.Triangles.{three}
-use Rattle.triangle_patterns.specs.TrianglesFacts.{first_of_lem}
 use Rattle.cell_patterns.specs.Flat.{distinct_in, smallest_in, pair_right, patterns_in}
 
 -- ---- a cell in its row

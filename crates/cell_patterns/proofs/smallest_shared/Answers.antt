@@ -1,6 +1,6 @@
 -- See Invariants.antt. Assumes nothing.
 use native.Mathlib.Omega.{arith}
-use mathlib.Core.Path.{ap, ◌∙◌, refl}
+use mathlib.Core.Path.{ap, refl}
 use lib.ListN.{length}
 use Rattle.grid.specs.RowsFacts.{cut_row}
 use Rattle.cell_patterns.specs.PatternFacts.{lowest_of, lowest_met, lowest_passed, lowest_all}
