@@ -39,7 +39,7 @@ impl Dimension {
     }
 }
 
-// Writes n, n + 1, .. into m places from `at` on.
+// Writes n, n + 1, .. into m places from `at` on. (By number: it is what is added to the place and to n.)
 fn write_numbers(dofs: &mut [u32], at: usize, n: u32, m: u32)
     requires { (at + m ≤ length dofs.old) × (n + m < 65536) }
     ensures { dofs.new ≡ sets dofs.old at (up_from n m) }
@@ -49,7 +49,7 @@ fn write_numbers(dofs: &mut [u32], at: usize, n: u32, m: u32)
     }
 }
 
-// Writes the owner records of m DOFs on entity x from `at` on.
+// Writes the owner records of m DOFs on entity x from `at` on. (By number: each record holds its own.)
 fn write_owners(owners: &mut [u32], at: usize, dimension: u32, x: u32, m: u32)
     requires { (at + 3 * m ≤ length owners.old) × (m < 65536) }
     ensures { owners.new ≡ sets owners.old at (owners_on dimension x m) }
