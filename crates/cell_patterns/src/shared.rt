@@ -123,7 +123,7 @@ impl Meeting<'_> {
     }
 
     // The number of their pattern: the formula's, if the table has their code there.
-    fn number(self) -> Option<u32>
+    fn pattern_number(self) -> Option<u32>
         ensures { IsPattern result (number_of (pattern self.entry.n self.entry.k (matches_in self.entry.shared.now))) }
     {
         let r = block_start(self.n, self.k) + self.in_block()?;
@@ -136,7 +136,9 @@ impl Meeting<'_> {
     }
 }
 
-// The pattern of a test cell and a trial cell, if the table has it. The test cell has no vertex twice.
+// The pattern of a test cell and a trial cell, if the table has it. The test cell has no vertex twice. (A call of its own: put into `pattern_of`, its registers
+// would be saved for each pair of triangles too.)
+#[inline(never)]
 pub(crate) fn cells_pattern(test: &[u32], trial: &[u32]) -> Option<u32>
     requires { (3 ≤ length test.now) × (length test.now ≤ 4) × (3 ≤ length trial.now) × (length trial.now ≤ 4) × (distinct test.now ≡ true) }
     ensures { IsPattern result (cells_pattern test.now trial.now) }
@@ -147,7 +149,7 @@ pub(crate) fn cells_pattern(test: &[u32], trial: &[u32]) -> Option<u32>
         k: trial.len() as u32,
         shared: &shared.list[..shared.count],
     };
-    meeting.number()
+    meeting.pattern_number()
 }
 
 // Check 7 of a test cell and a trial cell: they share no vertex, or have a pattern.
@@ -161,5 +163,5 @@ pub(crate) fn cells_right(test: &[u32], trial: &[u32]) -> bool
         k: trial.len() as u32,
         shared: &shared.list[..shared.count],
     };
-    (shared.count == 0) | meeting.number().is_some()
+    (shared.count == 0) | meeting.pattern_number().is_some()
 }

@@ -14,4 +14,4 @@ invariant_of-meeting c = record { le_n = (c.requires.0, c.requires.1, c.requires
 pub returns : goal.returns
 returns c =
     let a = c.args in
-    subst (λ (ms : List Match). IsPattern c.number.result (number_of (pattern (length a.test.now) (length a.trial.now) ms))) c.matches_of-shared.ensures.0 c.number.ensures
+    subst (λ (ms : List Match). IsPattern c.pattern_number.result (number_of (pattern (length a.test.now) (length a.trial.now) ms))) c.matches_of-shared.ensures.0 c.pattern_number.ensures

@@ -11,4 +11,4 @@ invariant_of-meeting c = record { le_n = (c.requires.0, c.requires.1, c.requires
 pub returns : goal.returns
 returns c =
     let e = c.matches_of-shared.ensures in
-    rw c.is_some.ensures (right_by c.args.test.now c.args.trial.now (take c.matches_of-shared.result.count c.matches_of-shared.result.list) _ (sym e.2) e.0 _ c.number.ensures)
+    rw c.is_some.ensures (right_by c.args.test.now c.args.trial.now (take c.matches_of-shared.result.count c.matches_of-shared.result.list) _ (sym e.2) e.0 _ c.pattern_number.ensures)

@@ -1,9 +1,9 @@
--- `cell_patterns::shared::Meeting::number` meets its contract: the row of the table where the formula points has the pattern, or none has. Assumes nothing.
+-- `cell_patterns::shared::Meeting::pattern_number` meets its contract: the row of the table where the formula points has the pattern, or none has. Assumes nothing.
 use mathlib.Core.Path.{sym}
 use native.Mathlib.Omega.{arith}
 use Rattle.cell_patterns.specs.TableRows.{shared_decimal}
 use Rattle.cell_patterns.specs.FormulaFacts.{formula_at, number_here, number_other, number_past}
-use Rattle.cell_patterns.proofs.shared.Meeting.number.Goals as goal
+use Rattle.cell_patterns.proofs.shared.Meeting.pattern_number.Goals as goal
 
 pub returns-then-table_row-code : goal.returns-then-table_row-code
 returns-then-table_row-code c = (
