@@ -1,6 +1,6 @@
 -- Laws of patterns, of check 7 and of the smallest shared vertex, of cells in rows. Assumes nothing.
-use Rattle.std.specs.Prelude.{ℕ, ◌+◌, ◌*◌, ◌<◌, ◌≤◌, ◌≡◌, refl, Bool, true, false, cond, not, ◌⊎◌, List, length, get_or, eqb, ltb}
-use Rattle.std.proofs.Common.{arith, sym, ap, ap₂, subst, ◌∙◌, inl, inr, eqb-true, ltb-true, ltb-false}
+use Rattle.std.specs.Prelude.{ℕ, zero, suc, ◌+◌, ◌*◌, ◌<◌, ◌≤◌, ◌≡◌, refl, Bool, true, false, cond, not, ◌⊎◌, List, length, get_or, min, eqb, ltb}
+use Rattle.std.proofs.Common.{add-one, arith, sym, ap, ap₂, subst, ◌∙◌, inl, inr, eqb-true, ltb-true, ltb-false}
 use Rattle.std.proofs.Math.Logic.{⊎_elim}
 use Rattle.lists.specs.Bool.{◌and◌, ◌or◌, true≢false, cases, and_left, and_right, and_both, and_no_left, and_no_right, or_cases, or_left, same_test}
 use Rattle.lists.specs.Bounded.{all, some, least_is, all_at, all_of, all_ext, eq_or_ne, lt_or_le}
@@ -13,7 +13,6 @@ use Rattle.cells_by_key.specs.Groups.{cells_with, part, Grouped, Below}
 use Rattle.cells_by_key.specs.GroupsFacts.{grouped_each, group_place, group_cells}
 use Rattle.cell_pairs.specs.Patterns.{smallest_shared, patterns_right}
 use Rattle.triangle_patterns.specs.Triangles.{three}
-use Rattle.triangle_patterns.specs.TrianglesFacts.{first_of_lem}
 use Rattle.cell_patterns.specs.Flat.{distinct_in, smallest_in, pair_right, patterns_in}
 
 -- ---- a cell in its row
@@ -127,13 +126,13 @@ lower_before b x m h = ⊎_elim (λ e. absurd (⊎_elim (λ l. omega arith) (λ 
 lower_is : (b : Bool) (x m : ℕ) → ((b ≡ true) × (lower b x m ≡ x)) ⊎ (lower b x m ≡ m)
 lower_is b x m = ⊎_elim (λ h. inl (h.0, h.1.1)) (λ h. inr h.1) (lower_cases b x m)
 
--- the lowest number of row i, below top, that is one of row j; each number is taken where it is lower than those before it
-unfoldable pub lowest : List ℕ → ℕ → ℕ → ℕ → ℕ
-lowest rows top i j =
-    lower (has (row rows j) (entity rows i 3)) (entity rows i 3)
-    (lower (has (row rows j) (entity rows i 2)) (entity rows i 2)
-    (lower (has (row rows j) (entity rows i 1)) (entity rows i 1)
-    (lower (has (row rows j) (entity rows i 0)) (entity rows i 0) top)))
+-- the lowest number of row i, of its first p, below top, that is one of row j; each number is taken where it is lower than those before it
+unfoldable pub lowest_of : List ℕ → ℕ → ℕ → ℕ → ℕ → ℕ
+lowest_of rows top i j zero = top
+lowest_of rows top i j (suc p) = lower (has (row rows j) (entity rows i p)) (entity rows i p) (lowest_of rows top i j p)
+
+abbrev pub lowest : List ℕ → ℕ → ℕ → ℕ → ℕ
+lowest rows top i j = lowest_of rows top i j 4
 
 -- the four numbers of a row
 row_cases : (rows : List ℕ) (i x : ℕ) → has (row rows i) x ≡ true → (entity rows i 0 ≡ x) ⊎ ((entity rows i 1 ≡ x) ⊎ ((entity rows i 2 ≡ x) ⊎ (entity rows i 3 ≡ x)))
@@ -155,12 +154,12 @@ module _ (rows : List ℕ) (top i j : ℕ) where
   third = lower (has (row rows j) (entity rows i 2)) (entity rows i 2) two
 
   lowest_le : (lowest rows top i j ≤ third) × ((third ≤ two) × ((two ≤ one) × (one ≤ top)))
-  unfolding lowest
+  unfolding lowest_of
   lowest_le = (lower_le _ _ _, (lower_le _ _ _, (lower_le _ _ _, lower_le _ _ _)))
 
   -- no number below it is in both rows
   lowest_apart : (k : ℕ) → k < lowest rows top i j → has (row rows i) k and has (row rows j) k ≡ false
-  unfolding lowest
+  unfolding lowest_of
   lowest_apart k l =
       ⊎_elim (λ h. and_no_right _ _ (⊎_elim at_0 (⊎_elim at_1 (⊎_elim at_2 at_3)) (row_cases rows i k h))) (λ h. and_no_left _ _ h) (cases (has (row rows i) k))
     where
@@ -184,7 +183,7 @@ module _ (rows : List ℕ) (top i j : ℕ) where
   shared_at p x h b e = subst (λ (y : ℕ). has (row rows i) y and has (row rows j) y ≡ true) (sym e) (and_both _ _ (row_has rows i p _ h refl) b)
 
   lowest_both : lowest rows top i j < top → has (row rows i) (lowest rows top i j) and has (row rows j) (lowest rows top i j) ≡ true
-  unfolding lowest
+  unfolding lowest_of
   lowest_both l =
       ⊎_elim (λ h. shared_at 3 _ (omega arith) h.0 h.1)
       (λ d. ⊎_elim (λ h. shared_at 2 _ (omega arith) h.0 (d ∙ h.1))
@@ -204,11 +203,33 @@ module _ (rows : List ℕ) (top i j : ℕ) where
       least_is top (λ x. has (cell_in top rows i) x and has (cell_in top rows j) x) (lowest rows top i j) (omega (arith, lowest_le))
       (λ k l. cells_have k (omega (arith, lowest_le)) ∙ lowest_apart k l) (λ l. cells_have _ l ∙ lowest_both l)
 
-  -- as four calls find it
-  pub smallest_by : {f g h d : Bool} {x y z w l m n r : ℕ}
-      → f ≡ has (row rows j) (get_or rows (4 * i) 0) → x ≡ get_or rows (4 * i) 0 → l ≡ lower f x top
-      → g ≡ has (row rows j) (entity rows i 1) → y ≡ entity rows i 1 → m ≡ lower g y l
-      → h ≡ has (row rows j) (entity rows i 2) → z ≡ entity rows i 2 → n ≡ lower h z m
-      → d ≡ has (row rows j) (entity rows i 3) → w ≡ entity rows i 3 → r ≡ lower d w n → r ≡ smallest_in top rows i j
-  unfolding lowest
-  smallest_by e0 e1 e2 e3 e4 e5 e6 e7 e8 e9 e10 e11 = rw (smallest_is, e11, e10, e9, e8, e7, e6, e5, e4, e3, e2, e1, e0, first_of_lem rows i)
+  -- of all four numbers
+  pub lowest_all : {k r : ℕ} → k ≡ 4 → r ≡ lowest_of rows top i j k → r ≡ smallest_in top rows i j
+  lowest_all h e = e ∙ ap (lowest_of rows top i j) h ∙ sym smallest_is
+
+-- ---- a walk over the numbers of row i, which are xs
+
+module _ (rows : List ℕ) (top i j : ℕ) {xs : List ℕ} (row_is : xs ≡ row rows i) where
+  place_four : (k : ℕ) → k < 4 → get_or (row rows i) k 0 ≡ entity rows i k
+  place_four zero l = refl
+  place_four (suc zero) l = refl
+  place_four (suc (suc zero)) l = refl
+  place_four (suc (suc (suc zero))) l = refl
+  place_four (suc (suc (suc (suc k)))) l = absurd (omega arith)
+
+  number_is : (k : ℕ) → k < length xs → get_or xs k 0 ≡ entity rows i k
+  number_is k l = ap (λ (ys : List ℕ). get_or ys k 0) row_is ∙ place_four k (omega (arith, ap length row_is))
+
+  module _ (k : ℕ) (l : k < length xs) {b : Bool} (e : b ≡ has (row rows j) (get_or xs k 0)) {m : ℕ} (before : m ≡ lowest_of rows top i j k) where
+    lowest_next : lower b (get_or xs k 0) m ≡ lowest_of rows top i j (k + 1)
+    unfolding lowest_of
+    lowest_next = rw (add-one, e, number_is k l, before) refl
+
+    pub lowest_met : b ≡ true → {x r : ℕ} → x ≡ get_or xs k 0 → r ≡ min m x → r ≡ lowest_of rows top i j (k + 1)
+    lowest_met t {x} {r} f g =
+        let same : r ≡ lower true (get_or xs k 0) m = ⊎_elim (λ h. omega (arith, f, g, h.1.0, h.1.1)) (λ h. omega (arith, f, g, h.0 refl, h.1)) (lower_cases true (get_or xs k 0) m) in
+        same ∙ ap (λ (b : Bool). lower b (get_or xs k 0) m) (sym t) ∙ lowest_next
+
+    pub lowest_passed : b ≡ false → m ≡ lowest_of rows top i j (k + 1)
+    unfolding ◌and◌
+    lowest_passed t = ap (λ (b : Bool). lower b (get_or xs k 0) m) (sym t) ∙ lowest_next

@@ -1,6 +1,9 @@
 -- The shared vertices of two cells as code lists them, and the place of a vertex in a cell. Assumes nothing.
 use Rattle.std.specs.Prelude.{ℕ, ◌<◌, ◌≡◌, Option, None, Some, List, [], ◌∷◌, map, length, get_or, eqb}
+use mathlib.Core.HLevel.{×_prop, Unit-prop}
+use native.Mathlib.Bridge.{le_prop}
 use Rattle.lists.specs.Bounded.{least}
+use Rattle.lists.specs.Range.{AllIn}
 use Rattle.cell_pairs.specs.Matches.{Match, ◌⇄◌}
 use Rattle.cell_patterns.specs.declared.shared.SharedVertex.{SharedVertex}
 
@@ -11,6 +14,12 @@ matches_in vs = map (λ (v : SharedVertex). v.test ⇄ v.trial) vs
 -- the places of one are below 4
 abbrev pub Small : SharedVertex → Type 0
 Small v = (v.test < 4) × (v.trial < 4)
+
+-- that each is so is a fact
+pub small_fact : (vs : List SharedVertex) → IsProp (AllIn Small vs)
+unfolding AllIn
+small_fact [] = Unit-prop
+small_fact (v ∷ vs) = ×_prop (×_prop le_prop le_prop) (small_fact vs)
 
 -- the vertex at trial place q, where it has the test place that is told
 abbrev pub one_at : Option ℕ → ℕ → List SharedVertex

@@ -13,7 +13,7 @@ ghost use Rattle.grid.specs.Mesh.{most_cells, most_vertices};
 ghost use Rattle.cell_pairs.specs.Records.{IsPattern};
 ghost use Rattle.cells_by_key.specs.Groups.{Cells, Cut, Below, part};
 ghost use Rattle.cell_patterns.specs.Flat.{distinct_in, pattern_in, smallest_in, pair_right, patterns_in};
-ghost use Rattle.cell_patterns.specs.PatternFacts.{Apart, row_right, group_right, lower};
+ghost use Rattle.cell_patterns.specs.PatternFacts.{Apart, row_right, group_right};
 
 use cells_by_key::{Groups, by_key};
 use grid::{MOST_CELLS, MOST_VERTICES, Rows};
@@ -31,7 +31,8 @@ fn both_triangles(rows: Rows, i: usize, j: usize) -> bool
     rows.is_triangle(i) & rows.is_triangle(j)
 }
 
-// The pattern of test cell i and trial cell j, if the table has it. No cell may have a vertex twice.
+// The pattern of test cell i and trial cell j, if the table has it. No cell may have a vertex twice. (`pair_right` shares the `if`, and no more: a function of
+// both would take a closure for each half, with a type and a clause for each, and both would still be written out in either caller.)
 pub fn pattern_of(rows: Rows, i: usize, j: usize) -> Option<u32>
     requires i_in_bounds { (4 * i + 4 ≤ length rows.rows.now) × (4 * j + 4 ≤ length rows.rows.now) }
     requires i_value { (distinct_in rows.none rows.rows.now i ≡ true) × (distinct_in rows.none rows.rows.now j ≡ true) }
@@ -44,28 +45,20 @@ pub fn pattern_of(rows: Rows, i: usize, j: usize) -> Option<u32>
     }
 }
 
-// The lower of x and m, if x counts, else m.
-fn lower_of(counts: bool, x: usize, m: usize) -> usize
-    ensures { result ≡ lower counts x m }
-{
-    if counts & (x < m) { x } else { m }
-}
-
-// The smallest vertex that cells i and j share, of those below top; top where they share none. With `none` as top, which is above all vertices, what stands in the
-// fourth place of a triangle is no lower than what is found before it. A number and not an Option, since each step is the lower of two, whether one is found or not.
+// The smallest vertex that cells i and j share, of those below top; top where they share none. With `none` as top, which is above all vertices, what stands in
+// the fourth place of a triangle is no lower than what is found before it. A number and not an Option, since it is the least of a list that top begins.
 pub fn smallest_shared(rows: Rows, top: usize, i: usize, j: usize) -> usize
     requires { (4 * i + 4 ≤ length rows.rows.now) × (4 * j + 4 ≤ length rows.rows.now) }
     ensures { result ≡ smallest_in top rows.entry.rows.now i j }
 {
     let at = 4 * i;
-    let x = rows.rows[at];
-    let y = rows.rows[at + 1];
-    let z = rows.rows[at + 2];
-    let w = rows.rows[at + 3];
-    let l = lower_of(rows.has_entity(j, x), wide(x), top);
-    let m = lower_of(rows.has_entity(j, y), wide(y), l);
-    let n = lower_of(rows.has_entity(j, z), wide(z), m);
-    lower_of(rows.has_entity(j, w), wide(w), n)
+    let mut smallest = top;
+    for &x in &rows.rows[at..at + 4] {
+        if rows.has_entity(j, x) {
+            smallest = smallest.min(wide(x));
+        }
+    }
+    smallest
 }
 
 // ---- check 7
@@ -83,7 +76,7 @@ fn pair_right(rows: Rows, i: usize, j: usize) -> bool
     }
 }
 
-// Check 7 of test cell i against the cells of a list.
+// Check 7 of test cell i against the cells of a list. (`coincident_cells::alone` has the same line with another test: what they share is the library's `all`.)
 fn row_right(rows: Rows, cells: &[u32], i: usize) -> bool
     requires cells { Cells rows.rows.now cells.now }
     requires apart { Apart rows.none rows.rows.now }

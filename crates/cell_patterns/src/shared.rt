@@ -9,7 +9,7 @@ ghost use Rattle.cell_pairs.specs.Records.{IsPattern};
 ghost use Rattle.cell_pairs.specs.Table.{pattern, number_of, block_start, in_block};
 ghost use Rattle.triangle_patterns.specs.Triangles.{cells_right};
 ghost use Rattle.pattern_table.specs.Numbers.{code_of};
-ghost use Rattle.cell_patterns.specs.Shared.{place_in, IsPlace, Small, matches_in, one_at};
+ghost use Rattle.cell_patterns.specs.Shared.{place_in, IsPlace, Small, small_fact, matches_in, one_at};
 
 use cell_pairs::NO_PATTERN;
 use grid::{edge_joining, second_of};
@@ -66,19 +66,6 @@ fn matches_of(test: &[u32], trial: &[u32]) -> Shared
     shared
 }
 
-// The code of the test kind n, the trial kind k and the shared vertices, as a row of the table has it.
-fn code_of(n: u32, k: u32, shared: &[SharedVertex]) -> u64
-    requires n_bound { (n ≤ 4) × (k ≤ 4) × (length shared.now ≤ 4) }
-    requires small { AllIn Small shared.now }
-    ensures { result ≡ code_of (pattern n k (matches_in shared.now)) }
-{
-    let mut code = (10 * n + k) as u64;
-    for s in shared {
-        code = 100 * code + (10 * s.test + s.trial) as u64;
-    }
-    code
-}
-
 // Where the block of test kind n and trial kind k begins.
 fn block_start(n: u32, k: u32) -> u32
     ensures { (result ≡ block_start n k) × (result ≤ 100) }
@@ -91,53 +78,78 @@ fn block_start(n: u32, k: u32) -> u32
     }
 }
 
-// The place inside the block of test kind n and trial kind k that the formula gives the shared vertices, if there are any.
-fn in_block(n: u32, k: u32, shared: &[SharedVertex]) -> Option<u32>
-    requires le_n { (3 ≤ n) × (n ≤ 4) × (3 ≤ k) × (k ≤ 4) × (length shared.now ≤ 4) }
-    requires small { AllIn Small shared.now }
-    ensures { IsPattern result (in_block n k (matches_in shared.now)) }
-{
-    match shared {
-        [] => None,
-        [s] => Some(k * s.test + s.trial),
-        [s, t] => {
-            let e = edge_joining(n, s.test, t.test);
-            let g = edge_joining(k, s.trial, t.trial);
-            let place = n * k + 2 * (k * e + g);
-            if s.test == second_of(n, e) {
-                Some(place + 1)
-            } else {
-                Some(place)
+// Two cells: how many vertices the test cell has, and the trial cell, and those that they share.
+#[derive(Clone, Copy)]
+struct Meeting<'a> {
+    n: u32,
+    k: u32,
+    shared: &'a [SharedVertex],
+    ghost le_n: { (3 ≤ n) × (n ≤ 4) × (3 ≤ k) × (k ≤ 4) × (length shared.now ≤ 4) },
+    ghost small: { AllIn Small shared.now } by { small_fact shared.now },
+}
+
+impl Meeting<'_> {
+    // Their code, as a row of the table has it.
+    fn code(self) -> u64
+        ensures { result ≡ code_of (pattern self.entry.n self.entry.k (matches_in self.entry.shared.now)) }
+    {
+        let mut code = (10 * self.n + self.k) as u64;
+        for s in self.shared {
+            code = 100 * code + (10 * s.test + s.trial) as u64;
+        }
+        code
+    }
+
+    // The place inside the block of their kinds that the formula gives the shared vertices, if there are any.
+    fn in_block(self) -> Option<u32>
+        ensures { IsPattern result (in_block self.entry.n self.entry.k (matches_in self.entry.shared.now)) }
+    {
+        let Meeting { n, k, shared } = self;
+        match shared {
+            [] => None,
+            [s] => Some(k * s.test + s.trial),
+            [s, t] => {
+                let e = edge_joining(n, s.test, t.test);
+                let g = edge_joining(k, s.trial, t.trial);
+                let place = n * k + 2 * (k * e + g);
+                if s.test == second_of(n, e) {
+                    Some(place + 1)
+                } else {
+                    Some(place)
+                }
+            }
+            _ => Some(3 * (n * k)),
+        }
+    }
+
+    // The number of their pattern: the formula's, if the table has their code there.
+    fn pattern_number(self) -> Option<u32>
+        ensures { IsPattern result (number_of (pattern self.entry.n self.entry.k (matches_in self.entry.shared.now))) }
+    {
+        let r = block_start(self.n, self.k) + self.in_block()?;
+        if r < NO_PATTERN {
+            if table_row(r as usize) == self.code() {
+                return Some(r);
             }
         }
-        _ => Some(3 * (n * k)),
+        None
     }
 }
 
-// The number of the pattern of two kinds and their shared vertices: the formula's, if the table has their code there.
-fn number_of(n: u32, k: u32, shared: &[SharedVertex]) -> Option<u32>
-    requires le_n { (3 ≤ n) × (n ≤ 4) × (3 ≤ k) × (k ≤ 4) × (length shared.now ≤ 4) }
-    requires small { AllIn Small shared.now }
-    ensures { IsPattern result (number_of (pattern n k (matches_in shared.now))) }
-{
-    let r = block_start(n, k) + in_block(n, k, shared)?;
-    if r < NO_PATTERN {
-        if table_row(r as usize) == code_of(n, k, shared) {
-            return Some(r);
-        }
-    }
-    None
-}
-
-// The pattern of a test cell and a trial cell, if the table has it. The test cell has no vertex twice.
+// The pattern of a test cell and a trial cell, if the table has it. The test cell has no vertex twice. (A call of its own: put into `pattern_of`, its registers
+// would be saved for each pair of triangles too.)
+#[inline(never)]
 pub(crate) fn cells_pattern(test: &[u32], trial: &[u32]) -> Option<u32>
     requires { (3 ≤ length test.now) × (length test.now ≤ 4) × (3 ≤ length trial.now) × (length trial.now ≤ 4) × (distinct test.now ≡ true) }
     ensures { IsPattern result (cells_pattern test.now trial.now) }
 {
-    let n = test.len() as u32;
-    let k = trial.len() as u32;
     let shared = matches_of(test, trial);
-    number_of(n, k, &shared.list[..shared.count])
+    let meeting = Meeting {
+        n: test.len() as u32,
+        k: trial.len() as u32,
+        shared: &shared.list[..shared.count],
+    };
+    meeting.pattern_number()
 }
 
 // Check 7 of a test cell and a trial cell: they share no vertex, or have a pattern.
@@ -145,8 +157,11 @@ pub(crate) fn cells_right(test: &[u32], trial: &[u32]) -> bool
     requires { (3 ≤ length test.now) × (length test.now ≤ 4) × (3 ≤ length trial.now) × (length trial.now ≤ 4) × (distinct test.now ≡ true) }
     ensures { result ≡ cells_right test.now trial.now }
 {
-    let n = test.len() as u32;
-    let k = trial.len() as u32;
     let shared = matches_of(test, trial);
-    (shared.count == 0) | number_of(n, k, &shared.list[..shared.count]).is_some()
+    let meeting = Meeting {
+        n: test.len() as u32,
+        k: trial.len() as u32,
+        shared: &shared.list[..shared.count],
+    };
+    (shared.count == 0) | meeting.pattern_number().is_some()
 }

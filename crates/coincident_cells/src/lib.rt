@@ -36,7 +36,8 @@ fn coincide(rows: Rows, i: usize, j: usize) -> bool
     j < i && same_vertices(rows.cell(i), rows.cell(j))
 }
 
-// Whether none of the cells of a list is earlier than cell i and has the same vertices.
+// Whether none of the cells of a list is earlier than cell i and has the same vertices. (`cell_patterns::row_right` has the same line with another test: what
+// they share is the library's `all`.)
 fn alone(rows: Rows, cells: &[u32], i: usize) -> bool
     requires cells { Cells rows.rows.now cells.now }
     requires i_in_bounds { 4 * i + 4 ≤ length rows.rows.now }

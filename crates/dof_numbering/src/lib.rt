@@ -39,7 +39,7 @@ impl Dimension {
     }
 }
 
-// Writes n, n + 1, .. into m places from `at` on.
+// Writes n, n + 1, .. into m places from `at` on. (By number: it is what is added to the place and to n.)
 fn write_numbers(dofs: &mut [u32], at: usize, n: u32, m: u32)
     requires { (at + m ≤ length dofs.old) × (n + m < 65536) }
     ensures { dofs.new ≡ sets dofs.old at (up_from n m) }
@@ -49,7 +49,7 @@ fn write_numbers(dofs: &mut [u32], at: usize, n: u32, m: u32)
     }
 }
 
-// Writes the owner records of m DOFs on entity x from `at` on.
+// Writes the owner records of m DOFs on entity x from `at` on. (By number: each record holds its own.)
 fn write_owners(owners: &mut [u32], at: usize, dimension: u32, x: u32, m: u32)
     requires { (at + 3 * m ≤ length owners.old) × (m < 65536) }
     ensures { owners.new ≡ sets owners.old at (owners_on dimension x m) }
@@ -60,8 +60,9 @@ fn write_owners(owners: &mut [u32], at: usize, dimension: u32, x: u32, m: u32)
     }
 }
 
-// Where the walk stands: the first number of each entity met so far, at its slot (0: not met yet, else 1 more than the number. An Option<u32> would take eight bytes
-// for four of the fixed memory, and an Option<NonZeroU32> holds 1 more than the number too); the two lists; the next place in the DOF list, and the next free number.
+// Where the walk stands: the first number of each entity met so far, at its slot (0: not met yet, else 1 more than the number. An Option<u32> would take eight
+// bytes for four of the fixed memory, and an Option<NonZeroU32> holds 1 more than the number too); the two lists; the next place in the DOF list, and the next
+// free number.
 #[derive(Drop)]
 struct DofWalk<'a> {
     met: &'a mut [u32; MOST_ENTITIES],
@@ -119,7 +120,8 @@ impl<'a> DofWalk<'a> {
     }
 }
 
-// Fills the DOF list and the owner records of all cells, and returns how many DOFs there are. The slots have a fixed size, since nothing is allocated. The tail of the owner list past the last record stays.
+// Fills the DOF list and the owner records of all cells, and returns how many DOFs there are. The slots have a fixed size, since nothing is allocated. The tail
+// of the owner list past the last record stays.
 pub fn assign_dofs(mesh: Mesh, elements: Elements, dofs: &mut [u32], owners: &mut [u32]) -> u32
     requires sized { Sized (space_lent mesh elements) (length mesh.kinds.now) }
     requires dofs_len { (length dofs.old ≡ before (cell_dim elements) mesh.kinds.now (length mesh.kinds.now)) × (length owners.old ≡ 3 * before (cell_dim elements) mesh.kinds.now (length mesh.kinds.now)) }

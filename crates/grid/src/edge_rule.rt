@@ -10,7 +10,8 @@ use crate::shape::{KEY_STEP, MOST_CORNERS, end_of, write_cell_keys};
 use crate::{MOST_CELLS, MOST_EDGES};
 use numbers::wide;
 
-// Above every key. In place of an Option, which takes eight bytes for four: then `has_key` would compare half as many at a time.
+// Above every key. In place of an Option, which takes eight bytes for four: then `has_key` would compare half as many at a time, and the list of keys would
+// take 64 KiB of planning's stack for 32.
 const NO_KEY: u32 = KEY_STEP * KEY_STEP;
 
 // Writes the key of each edge place, in the order of the edge list.
@@ -52,8 +53,8 @@ fn may_have(keys: &[u32; MOST_EDGES], count: usize, edge: usize, key: u32) -> bo
     }
 }
 
-// Whether each edge, of so many, has one key at all its places, and no two edges have the same, where the keys of the edge places are given. An edge that no place
-// passed has is marked with NO_KEY; those past the largest number so far are not looked at. The list has a fixed size, since nothing is allocated.
+// Whether each edge, of so many, has one key at all its places, and no two edges have the same, where the keys of the edge places are given. An edge that no
+// place passed has is marked with NO_KEY; those past the largest number so far are not looked at. The list has a fixed size, since nothing is allocated.
 fn keys_agree(places: &[u32], edges: &[u32], count: usize) -> bool
     requires { Numbered places.now edges.now count }
     ensures { result ≡ keys_agree places.now edges.now }

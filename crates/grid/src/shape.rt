@@ -20,7 +20,8 @@ use numbers::wide;
 // The most vertices of a cell, and the most edges.
 pub(crate) const MOST_CORNERS: usize = 4;
 
-// The number of vertices of a cell of a kind, and of edges. A kind is a byte, since C lends the list of kinds as bytes.
+// The number of vertices of a cell of a kind, and of edges. A kind, here and below, is a byte of the list that C lends, and itself the number of the cell's
+// vertices: with an enum each caller would have to make one of each byte first, and show that it is a kind.
 pub fn corners_of(kind: u8) -> usize
     ensures { (result ≡ kind) × (result < 256) }
 {
@@ -38,7 +39,7 @@ pub(crate) fn kinds_known(kinds: &[u8]) -> bool
     known
 }
 
-// How many of few cells are of a kind. Eight bits do, so that it is compiled to sixteen cells at a time, not four.
+// How many of few cells are of a kind, a byte as they are. Eight bits do, so that it is compiled to sixteen cells at a time, not four.
 fn count_few(kinds: &[u8], kind: u8) -> u8
     requires { length kinds.now ≤ few }
     ensures { result ≡ cells_of kinds.now kind }
@@ -53,7 +54,7 @@ fn count_few(kinds: &[u8], kind: u8) -> u8
 // The most cells that are counted in eight bits.
 const FEW: usize = 128;
 
-// How many cells are of a kind.
+// How many cells are of a kind, a byte as in their list.
 pub fn count_kind(kinds: &[u8], kind: u8) -> u32
     requires { length kinds.now ≤ most_cells }
     ensures { result ≡ cells_of kinds.now kind }
@@ -65,8 +66,8 @@ pub fn count_kind(kinds: &[u8], kind: u8) -> u32
     count
 }
 
-// Whether the first 4n cells are of a kind. With no way out before the end, as above, and a cell of each quarter at a time, so that there are fewer turns: the
-// whole list by `rest_are` alone is plainer, and takes 530 instructions for 450 at 2,048 cells, in every call of a run.
+// Whether the first 4n cells are of a kind, a byte as in their list. With no way out before the end, as above, and a cell of each quarter at a time, so that
+// there are fewer turns: the whole list by `rest_are` alone is plainer, and takes 530 instructions for 450 at 2,048 cells, in every call of a run.
 fn quarters_are(kinds: &[u8], n: usize, kind: u8) -> bool
     requires { 4 * n ≤ length kinds.now }
     ensures { result ≡ all (4 * n) (λ i. eqb (get_or kinds.now i 0) kind) }
@@ -82,7 +83,7 @@ fn quarters_are(kinds: &[u8], n: usize, kind: u8) -> bool
     same
 }
 
-// Whether the cells of a list are of a kind.
+// Whether the cells of a list are of a kind, a byte as in the list.
 fn rest_are(kinds: &[u8], kind: u8) -> bool
     ensures { result ≡ all (length kinds.now) (λ i. eqb (get_or kinds.now i 0) kind) }
 {
@@ -93,7 +94,7 @@ fn rest_are(kinds: &[u8], kind: u8) -> bool
     same
 }
 
-// Whether all cells are of a kind.
+// Whether all cells are of a kind, a byte as in their list.
 fn all_are(kinds: &[u8], kind: u8) -> bool
     ensures { result ≡ all (length kinds.now) (λ i. eqb (get_or kinds.now i 0) kind) }
 {
@@ -132,7 +133,7 @@ pub(crate) fn count_places(kinds: &[u8]) -> usize
     at
 }
 
-// The end of the numbers of a cell of a kind that begin at a place.
+// The end of the numbers of a cell of a kind, a byte as in the list of kinds, that begin at a place.
 pub(crate) fn end_of(kind: u8, at: usize) -> usize
     requires { at + kind ≤ 4 * most_cells }
     ensures { result ≡ at + kind }
@@ -140,7 +141,8 @@ pub(crate) fn end_of(kind: u8, at: usize) -> usize
     at + corners_of(kind)
 }
 
-// Whether no vertex stands twice in the cell.
+// Whether no vertex stands twice in the cell. (This and the two functions below that write of a cell ask that it is of few numbers, and no type does: each cell
+// is cut out of a list for one such call, and where it is cut out the fact would be shown as here.)
 pub(crate) fn is_distinct(cell: &[u32]) -> bool
     requires { (3 ≤ length cell.now) × (length cell.now ≤ 4) }
     ensures { result ≡ distinct cell.now }
@@ -205,20 +207,20 @@ fn joins(p: u32, q: u32, a: u32, b: u32) -> bool
 }
 
 // The local edge of a cell of kind n, 3 or 4, that joins local vertices a and b; n where none does. No Option, since a pattern's number is reckoned from it in
-// either case: the row of the table that stands at the number says whether it is the pattern.
+// either case: the row of the table that stands at the number says whether it is the pattern. The `match` would stand twice in the caller, for the edge of
+// either cell.
 pub fn edge_joining(n: u32, a: u32, b: u32) -> u32
     requires { (3 ≤ n) × (n ≤ 4) }
     ensures { (result ≡ edge_joining n a b) × (result ≤ 4) }
 {
-    for (e, &(p, q)) in edges_of(n).iter().enumerate() {
-        if joins(p, q, a, b) {
-            return e as u32;
-        }
+    match edges_of(n).iter().position(|&(p, q)| joins(p, q, a, b)) {
+        Some(e) => e as u32,
+        None => n,
     }
-    n
 }
 
-// The second local vertex of local edge e of a cell of kind n; 0 where there is no such edge, and no Option, for the same reason.
+// The second local vertex of local edge e of a cell of kind n; 0 where there is no such edge. No Option, for the same reason: the caller compares the number,
+// and would first put the 0 back.
 pub fn second_of(n: u32, e: u32) -> u32
     ensures { result ≡ (ends_of n e).second }
 {
@@ -257,8 +259,8 @@ pub fn write_rows(kinds: &[u8], list: &[u32], none: u32, rows: &mut [u32])
     }
 }
 
-// The rows of the cells, and the number that stands in the fourth place of a triangle's. What else a function needs of rows it asks for itself: as a fact of this
-// type it would be asked of every caller of these methods.
+// The rows of the cells, and the number that stands in the fourth place of a triangle's. What else a function needs of rows it asks for itself: as a fact of
+// this type it would be asked of every caller of these methods.
 #[derive(Clone, Copy)]
 pub struct Rows<'a> {
     pub rows: &'a [u32],

@@ -8,11 +8,11 @@ use Rattle.distant_pairs.proofs.write_kinds.Goals as goal
 use Rattle.distant_pairs.proofs.write_kinds.Goals.{In-loop-c, In-loop-d}
 
 -- a turn's group is one of the groups
-group : (c : In-loop-c) → c.args.test_kind * half c.args.tests.ends.now + c.loop-c.c < length c.args.tests.ends.now
-group c = kind_group _ _ _ c.requires.batch_nonzero.2 c.loop-c-test.true
+group : (c : In-loop-c) → c.args.tests.half * half c.args.tests.groups.ends.now + c.loop-c.c < length c.args.tests.groups.ends.now
+group c = kind_group _ _ _ c.args.tests.half_bound c.loop-c-test.true
 
-group_2 : (c : In-loop-d) → c.args.trial_kind * half c.args.trials.ends.now + c.loop-d.d < length c.args.trials.ends.now
-group_2 c = kind_group _ _ _ c.requires.batch_nonzero.3 c.loop-d-test.true
+group_2 : (c : In-loop-d) → c.args.trials.half * half c.args.trials.groups.ends.now + c.loop-d.d < length c.args.trials.groups.ends.now
+group_2 c = kind_group _ _ _ c.args.trials.half_bound c.loop-d-test.true
 
 pub loop-c-init : goal.loop-c-init
 loop-c-init c = turns_start _ _ _ _

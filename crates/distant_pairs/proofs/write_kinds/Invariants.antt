@@ -10,8 +10,8 @@ use Rattle.distant_pairs.proofs.write_kinds.Given as goal
 
 abbrev pub invariant-loop-c : goal.invariant-loop-c
 invariant-loop-c l =
-    Turns records (λ c'. distant_rest l.rows.none l.rows.rows.now l.batch (part l.tests.order.now l.tests.ends.now (l.test_kind * half l.tests.ends.now + c')) l.trials.order.now l.trials.ends.now l.trial_kind) (half l.tests.ends.now) l.initial.work l.work l.at l.next l.c
+    Turns records (λ c'. distant_rest l.rows.none l.rows.rows.now l.batch (part l.tests.groups.order.now l.tests.groups.ends.now (l.tests.half * half l.tests.groups.ends.now + c')) l.trials.groups.order.now l.trials.groups.ends.now l.trials.half) (half l.tests.groups.ends.now) l.initial.work l.work l.at l.next l.c
 
 abbrev pub invariant-loop-d : goal.invariant-loop-d
 invariant-loop-d l =
-    Turns records (λ d'. distant_colours (share l.rows.none l.rows.rows.now) l.batch l.test_cells (part l.trials.order.now l.trials.ends.now (l.trial_kind * half l.trials.ends.now + d'))) (half l.trials.ends.now) l.initial.work l.work l.initial.next l.next l.d
+    Turns records (λ d'. distant_colours (share l.rows.none l.rows.rows.now) l.batch l.test_cells (part l.trials.groups.order.now l.trials.groups.ends.now (l.trials.half * half l.trials.groups.ends.now + d'))) (half l.trials.groups.ends.now) l.initial.work l.work l.initial.next l.next l.d

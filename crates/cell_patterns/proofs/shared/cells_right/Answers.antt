@@ -5,10 +5,10 @@ use native.Mathlib.Omega.{arith}
 use Rattle.cell_patterns.specs.SharedFacts.{right_by}
 use Rattle.cell_patterns.proofs.shared.cells_right.Goals as goal
 
-pub number_of-requires : goal.number_of-requires
-number_of-requires c = record { le_n = (c.requires.0, c.requires.1, c.requires.2, c.requires.3, omega (arith, c.matches_of-shared.ensures.1, c.matches_of-shared.ensures.2)); small = c.matches_of-shared.ensures.3 }
+pub invariant_of-meeting : goal.invariant_of-meeting
+invariant_of-meeting c = record { le_n = (c.requires.0, c.requires.1, c.requires.2, c.requires.3, omega (arith, c.matches_of-shared.ensures.1, c.matches_of-shared.ensures.2)); small = c.matches_of-shared.ensures.3 }
 
 pub returns : goal.returns
 returns c =
     let e = c.matches_of-shared.ensures in
-    rw c.is_some.ensures (right_by c.args.test.now c.args.trial.now (take c.matches_of-shared.result.count c.matches_of-shared.result.list) _ (sym e.2) e.0 _ c.number_of.ensures)
+    rw c.is_some.ensures (right_by c.args.test.now c.args.trial.now (take c.matches_of-shared.result.count c.matches_of-shared.result.list) _ (sym e.2) e.0 _ c.pattern_number.ensures)

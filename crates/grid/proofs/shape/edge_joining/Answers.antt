@@ -1,25 +1,28 @@
--- See Invariants.antt. Assumes nothing.
+-- `grid::shape::edge_joining` meets its contract: the first edge that joins the two. Assumes nothing.
+use Rattle.std.proofs.Common.{rules}
+use borrow.Author.Tests.{tests}
 use native.Mathlib.Omega.{arith}
-use mathlib.Core.Path.{sym, ap, ◌∙◌}
-use lib.ListN.{length}
-use Rattle.lists.specs.Bounded.{least_is, least_none}
-use Rattle.grid.specs.Cells.{edge_joining}
-use Rattle.grid.specs.EdgesFacts.{length_pairs, pair_at}
+use Rattle.std.proofs.lemmas.Iterator.{IsFirst-from_position, YieldsList-from_slice}
+use mathlib.Core.Bool.{true, false}
+use mathlib.Core.Path.{◌≡◌, sym}
+use Rattle.grid.specs.Cells.{same_two, edge_joining}
+use Rattle.grid.specs.EdgesFacts.{IsEdge, edge_told}
 use Rattle.grid.proofs.shape.edge_joining.Goals as goal
+use Rattle.grid.proofs.shape.edge_joining.Goals.{After-position}
 
-pub returns-then-joins : goal.returns-then-joins
-unfolding edge_joining
-returns-then-joins c =
-    let n = c.args.n in
-    let k = c.loop-e.e in
-    let items = c.edges_of-p-items.ensures in
-    let long = ap length items ∙ length_pairs n c.requires.0 c.requires.1 in
-    let ends = pair_at n k in
-    let joined = rw (items, ends.0, ends.1) at c.joins.ensures in
-    (sym (least_is n _ k (omega (arith, long)) c.loop-e.invariant (λ _. sym joined ∙ c.if-joins.true)), omega (arith, long, c.requires.1))
+-- as the search answers
+told : (c : After-position) → IsEdge c.position.result (edge_joining c.args.n c.args.a c.args.b) c.args.n
+told c =
+    let joins = λ (y : _). same_two y.0 y.1 c.args.a c.args.b in
+    edge_told c.args.n c.args.a c.args.b c.requires.0 c.requires.1 c.edges_of.ensures c.position.result
+    (IsFirst-from_position _ _ _ (λ y. joins y ≡ true) (λ y. joins y ≡ false) c.position.ensures.ran (YieldsList-from_slice c.edges_of.result.now c.iter.ensures.rest) (λ x q k. search (rules, tests)) (λ x q k. search (rules, tests)))
 
-pub returns : goal.returns
-unfolding edge_joining
-returns c =
-    let long = ap length c.edges_of-p-items.ensures ∙ length_pairs c.args.n c.requires.0 c.requires.1 in
-    (sym (least_none _ _ (λ k h. c.loop-e.invariant k (omega (arith, long)))), c.requires.1)
+pub returns-in-Some : goal.returns-in-Some
+returns-in-Some c =
+    let e = rw c.in-Some.is at (told (goal.at.returns-in-Some c).After-position) in
+    (e.0, omega (arith, e.1, c.requires.1))
+
+pub returns-in-None : goal.returns-in-None
+returns-in-None c =
+    let e = rw c.in-None.is at (told (goal.at.returns-in-None c).After-position) in
+    (sym e, c.requires.1)
