@@ -10,14 +10,14 @@ use Rattle.std.proofs.lemmas.Slice.{put_mid-paste}
 use Rattle.std.proofs.lemmas.Simd.{splat_is_map}
 use Rattle.std.proofs.lemmas.List.Edits.{sets, sets-eq, get_or-between}
 use Rattle.lists.specs.Stores.{sets_all}
-use Rattle.lists.specs.Writes.{Stores, stores_turn, stores_done, Blocks, blocks_start, blocks_room, blocks_turn, blocks_done}
+use Rattle.lists.specs.Writes.{Stores, stores_turn, stores_done, Blocks, blocks_room, blocks_turn, blocks_done}
 use Rattle.numbers.specs.Floats.{◌!◌}
 use Rattle.std.proofs.lemmas.List.{length-map}
 use Rattle.lists.specs.Range.{range, length_range, flat_map_below, flat_map_places, map_below, length_blocks}
 use Rattle.lists.specs.Fold.{upto, upto_keeps, upto_ext, Folded, folded_turn}
 use Rattle.lists.specs.Places.{in_row}
 use Rattle.scatter.specs.Adding.{add_at, add_local, local_rows, local_columns, local_values}
-use Rattle.scatter.specs.Entries.{entry_at, HasRoom, AddFits, ColumnFits, add_row, add_column, add_trial}
+use Rattle.scatter.specs.Entries.{entry_at, AddFits, ColumnFits, add_row, add_column, add_trial}
 
 -- ---- the matrix
 
@@ -109,7 +109,7 @@ pub length_local_values : (entry : ℕ → ℕ → Float) (m n : ℕ) → length
 unfolding local_values
 length_local_values entry m n = length_blocks _ m (λ j. length-map (range m) _ ∙ length_range m) n
 
--- ---- the loop over the trial basis that writes all three
+-- ---- the loops over the trial basis that write a list
 
 -- so many elements written over those from a on
 put_block : {A : Type 0} (a k : ℕ) (xs ys : List A) → length ys ≡ k → a + k ≤ length xs → put_mid a k xs ys ≡ sets xs a ys
@@ -125,45 +125,37 @@ pub stored_done : (entries : List Float) (j : ℕ) {i : ℕ} {before after : Lis
     → after ≡ map (λ i. entry_at entries (length before) i j) (range (length before))
 stored_done entries j {before = before} f h = stores_done f h ∙ sets_all before _ (length-map (range (length before)) _ ∙ length_range (length before))
 
--- the columns below j are written
-pub record Writing (at : ℕ) (test_dofs trial_dofs : List ℕ) (entries : List Float) (rs rs' cs cs' : List ℕ) (vs vs' : List Float) (j : ℕ) : Type 0 where
-  pub for_rows : Blocks (λ _. test_dofs) (length test_dofs) (length trial_dofs) rs rs' at j
-  pub for_columns : Blocks (λ (k : ℕ). map (λ row. get_or trial_dofs k 0) test_dofs) (length test_dofs) (length trial_dofs) cs cs' at j
-  pub for_values : Blocks (λ (k : ℕ). map (λ i. entry_at entries (length test_dofs) i k) (range (length test_dofs))) (length test_dofs) (length trial_dofs) vs vs' at j
+-- a turn of each of the three: the block of column j is written over a part of the list
+pub block_turn : {A : Type 0} {f : ℕ → List A} {w n at j k : ℕ} {xs ys zs : List A} → Blocks f w n xs ys at j → ((i : ℕ) → length (f i) ≡ w) → j < n
+    → at + w * n ≤ length xs → zs ≡ f j → k ≡ w → Blocks f w n xs (put_mid (at + w * j) k ys zs) at (j + 1)
+block_turn {f = f} {w} {at = at} {j} {k} {ys = ys} {zs} b e h room ez ek =
+    let p = blocks_room b h room in
+    blocks_turn b e h (put_block (at + w * j) k ys zs (ap length ez ∙ e j ∙ sym ek) (omega arith) ∙ ap (sets ys (at + w * j)) ez)
 
-pub writing_start : (at : ℕ) (test_dofs trial_dofs : List ℕ) (entries : List Float) (rs cs : List ℕ) (vs : List Float) → Writing at test_dofs trial_dofs entries rs rs cs cs vs vs 0
-writing_start at test_dofs trial_dofs entries rs cs vs =
-    record { for_rows = blocks_start _ _ _ _ _; for_columns = blocks_start _ _ _ _ _; for_values = blocks_start _ _ _ _ _ }
+pub rows_done : (test_dofs trial_dofs : List ℕ) {at j : ℕ} {xs ys : List ℕ} → Blocks (λ _. test_dofs) (length test_dofs) (length trial_dofs) xs ys at j
+    → length trial_dofs ≤ j → ys ≡ sets xs at (local_rows test_dofs trial_dofs)
+rows_done test_dofs trial_dofs b h = rw rows_places (blocks_done b h)
 
-module _ {at : ℕ} {test_dofs trial_dofs : List ℕ} {entries : List Float} {rs rs' cs cs' : List ℕ} {vs vs' : List Float} {j : ℕ}
-    (w : Writing at test_dofs trial_dofs entries rs rs' cs cs' vs vs' j) (h : j < length trial_dofs) (room : HasRoom at rs cs vs test_dofs trial_dofs) where
-  -- the places of a turn
-  pub writing_places : (at + length test_dofs * j + length test_dofs ≤ length rs') × (at + length test_dofs * j + length test_dofs ≤ length cs')
-      × (at + length test_dofs * j + length test_dofs ≤ length vs')
-  writing_places = (blocks_room w.for_rows h room.for_rows, blocks_room w.for_columns h room.for_columns, blocks_room w.for_values h room.for_values)
+-- the column numbers of trial basis j, as often as there are test DOFs
+abbrev pub column_of : List ℕ → List ℕ → ℕ → List ℕ
+column_of test_dofs trial_dofs j = map (λ row. get_or trial_dofs j 0) test_dofs
 
-  pub writing_turn : {c : ℕ} {row column : List ℕ} {values : List Float} → row ≡ test_dofs → c ≡ get_or trial_dofs j 0 → {n : ℕ} → column ≡ replicate n c → n ≡ length test_dofs
-      → {o : ℕ} → o ≡ length test_dofs → values ≡ map (λ i. entry_at entries o i j) (range o) → {k : ℕ} → k ≡ length test_dofs
-      → Writing at test_dofs trial_dofs entries rs (put_mid (at + length test_dofs * j) k rs' row) cs (put_mid (at + length test_dofs * j) k cs' column)
-      vs (put_mid (at + length test_dofs * j) k vs' values) (j + 1)
-  writing_turn {c} {row} {column} {values} er ec es en {o} eo ev {k} ek =
-      let m : ℕ = length test_dofs in
-      let p = writing_places in
-      let col : column ≡ map (λ row. get_or trial_dofs j 0) test_dofs = es ∙ ap (λ (i : ℕ). replicate i c) en ∙ splat_is_map test_dofs m c refl ∙ ap (λ (v : ℕ). map (λ row. v) test_dofs) ec in
-      let val : values ≡ map (λ i. entry_at entries m i j) (range m) = ev ∙ ap (λ (n : ℕ). map (λ i. entry_at entries n i j) (range n)) eo in
-      record {
-        for_rows = blocks_turn w.for_rows (λ _. refl) h
-            (put_block (at + m * j) k rs' row (ap length er ∙ sym ek) (omega arith) ∙ ap (sets rs' (at + m * j)) er);
-        for_columns = blocks_turn w.for_columns (λ _. length-map test_dofs _) h
-            (put_block (at + m * j) k cs' column (ap length col ∙ length-map test_dofs _ ∙ sym ek) (omega arith) ∙ ap (sets cs' (at + m * j)) col);
-        for_values = blocks_turn w.for_values (λ _. length-map (range m) _ ∙ length_range m) h
-            (put_block (at + m * j) k vs' values (ap length val ∙ length-map (range m) _ ∙ length_range m ∙ sym ek) (omega arith) ∙ ap (sets vs' (at + m * j)) val);
-      }
+pub column_filled : (test_dofs trial_dofs : List ℕ) (j : ℕ) {c n : ℕ} → c ≡ get_or trial_dofs j 0 → n ≡ length test_dofs → replicate n c ≡ column_of test_dofs trial_dofs j
+column_filled test_dofs trial_dofs j {c} ec en =
+    ap (λ (i : ℕ). replicate i c) en ∙ splat_is_map test_dofs (length test_dofs) c refl ∙ ap (λ (v : ℕ). map (λ row. v) test_dofs) ec
 
-pub writing_done : {at : ℕ} {test_dofs trial_dofs : List ℕ} {entries : List Float} {rs rs' cs cs' : List ℕ} {vs vs' : List Float} {j : ℕ}
-    → Writing at test_dofs trial_dofs entries rs rs' cs cs' vs vs' j → length trial_dofs ≤ j
-    → (rs' ≡ sets rs at (local_rows test_dofs trial_dofs)) × (cs' ≡ sets cs at (local_columns test_dofs trial_dofs))
-    × (vs' ≡ sets vs at (local_values (entry_at entries (length test_dofs)) (length test_dofs) (length trial_dofs)))
+pub columns_done : (test_dofs trial_dofs : List ℕ) {at j : ℕ} {xs ys : List ℕ} → Blocks (column_of test_dofs trial_dofs) (length test_dofs) (length trial_dofs) xs ys at j
+    → length trial_dofs ≤ j → ys ≡ sets xs at (local_columns test_dofs trial_dofs)
+columns_done test_dofs trial_dofs b h = rw columns_places (blocks_done b h)
+
+-- the values of trial basis j
+abbrev pub values_of : List Float → ℕ → ℕ → List Float
+values_of entries m j = map (λ i. entry_at entries m i j) (range m)
+
+pub length_values_of : (entries : List Float) (m j : ℕ) → length (values_of entries m j) ≡ m
+length_values_of entries m j = length-map (range m) _ ∙ length_range m
+
+pub values_done : (entries : List Float) {m n at j : ℕ} {xs ys : List Float} → Blocks (values_of entries m) m n xs ys at j → n ≤ j
+    → ys ≡ sets xs at (local_values (entry_at entries m) m n)
 unfolding local_values
-writing_done w h =
-    (rw rows_places (blocks_done w.for_rows h), rw columns_places (blocks_done w.for_columns h), blocks_done w.for_values h)
+values_done entries b h = blocks_done b h

@@ -40,6 +40,17 @@ fn add_column(matrix: &mut [f64], rows: usize, base: usize, test_dofs: &[u32], e
     }
 }
 
+// The entries of trial basis function j, one for each place of the list. (By index and not as a slice: here stands the order that the lists promise, i + m·j.)
+fn write_column(values: &mut [f64], entries: &[f64; 100], j: usize)
+    requires { (length values.old ≤ most_dim) × (j < most_dim) }
+    ensures { values.new ≡ map (λ (i : ℕ). entry_at entries.now (length values.old) i j) (range (length values.old)) }
+{
+    let m = values.len();
+    for (i, value) in values.iter_mut().enumerate() {
+        *value = entries[i + m * j];
+    }
+}
+
 impl LocalMatrix<'_> {
     // Adds the local matrix to the matrix: entry (i, j) at row + rows·column.
     pub fn add_to(self, matrix: &mut [f64], rows: usize, columns: usize)
@@ -59,16 +70,43 @@ impl LocalMatrix<'_> {
             add_column(matrix, rows, base, test_dofs, &entries[first..first + m]);
         }
     }
-}
 
-// The entries of trial basis function j, one for each place of the list. (By index and not as a slice: here stands the order that the lists promise, i + m·j.)
-fn write_column(values: &mut [f64], entries: &[f64; 100], j: usize)
-    requires { (length values.old ≤ most_dim) × (j < most_dim) }
-    ensures { values.new ≡ map (λ (i : ℕ). entry_at entries.now (length values.old) i j) (range (length values.old)) }
-{
-    let m = values.len();
-    for (i, value) in values.iter_mut().enumerate() {
-        *value = entries[i + m * j];
+    // The row of each entry, written from place at on. (By the number of a column, here and below: it says where the column stands.)
+    pub fn write_rows(self, rows: &mut [u32], at: usize)
+        requires { at + length self.test_dofs.now * length self.trial_dofs.now ≤ length rows.old }
+        ensures { rows.new ≡ sets rows.old at (local_rows self.entry.test_dofs.now self.entry.trial_dofs.now) }
+    {
+        let m = self.test_dofs.len();
+        for j in 0..self.trial_dofs.len() {
+            let place = at + m * j;
+            rows[place..place + m].copy_from_slice(self.test_dofs);
+        }
+    }
+
+    // The column of each entry, written from place at on.
+    pub fn write_columns(self, columns: &mut [u32], at: usize)
+        requires { at + length self.test_dofs.now * length self.trial_dofs.now ≤ length columns.old }
+        ensures { columns.new ≡ sets columns.old at (local_columns self.entry.test_dofs.now self.entry.trial_dofs.now) }
+    {
+        let m = self.test_dofs.len();
+        for (j, &column) in self.trial_dofs.iter().enumerate() {
+            let place = at + m * j;
+            columns[place..place + m].fill(column);
+        }
+    }
+
+    // The value of each entry, written from place at on.
+    pub fn write_values(self, values: &mut [f64], at: usize)
+        requires room { at + length self.test_dofs.now * length self.trial_dofs.now ≤ length values.old }
+        requires few { (length self.test_dofs.now ≤ most_dim) × (length self.trial_dofs.now ≤ most_dim) }
+        ensures { values.new ≡ sets values.old at
+            (local_values (entry_at self.entry.entries.now (length self.entry.test_dofs.now)) (length self.entry.test_dofs.now) (length self.entry.trial_dofs.now)) }
+    {
+        let m = self.test_dofs.len();
+        for j in 0..self.trial_dofs.len() {
+            let place = at + m * j;
+            write_column(&mut values[place..place + m], self.entries, j);
+        }
     }
 }
 
@@ -82,20 +120,8 @@ impl EntryLists<'_> {
             (local_values (entry_at local.entry.entries.now (length local.entry.test_dofs.now)) (length local.entry.test_dofs.now) (length local.entry.trial_dofs.now)) }
         ensures same_lists { SameLists self.old self.new }
     {
-        let rows = &mut *self.rows;
-        let columns = &mut *self.columns;
-        let values = &mut *self.values;
-        let LocalMatrix {
-            test_dofs,
-            trial_dofs,
-            entries,
-        } = local;
-        let m = test_dofs.len();
-        for (j, &column) in trial_dofs.iter().enumerate() {
-            let place = at + m * j;
-            rows[place..place + m].copy_from_slice(test_dofs);
-            columns[place..place + m].fill(column);
-            write_column(&mut values[place..place + m], entries, j);
-        }
+        local.write_rows(self.rows, at);
+        local.write_columns(self.columns, at);
+        local.write_values(self.values, at);
     }
 }
