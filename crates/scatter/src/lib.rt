@@ -71,7 +71,8 @@ impl LocalMatrix<'_> {
         }
     }
 
-    // The row of each entry, written from place at on. (By the number of a column, here and below: it says where the column stands.)
+    // The row of each entry, written from place at on. (By the number of a column, here and in the two below: it says where the column stands. One loop for the
+    // three would take what it writes in a column as a closure over a part of the list, with clauses for that: longer than the three.)
     pub fn write_rows(self, rows: &mut [u32], at: usize)
         requires { at + length self.test_dofs.now * length self.trial_dofs.now ≤ length rows.old }
         ensures { rows.new ≡ sets rows.old at (local_rows self.entry.test_dofs.now self.entry.trial_dofs.now) }
