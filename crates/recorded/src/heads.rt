@@ -59,7 +59,7 @@ impl Forms {
     }
 }
 
-/// An element: a, b and c.
+/// An element: a, b and c. (Field by field, as `Forms`, of which no field is the same.)
 pub fn read_element(words: &mut Words<'_>) -> io::Result<Element> {
     Ok(Element {
         a: u32::from(words.digit()?),
@@ -94,7 +94,8 @@ impl Head {
         })
     }
 
-    /// What planning is given besides the mesh: the factors are the next words. A recorded element is that of triangles, and stands for quads too where there are none.
+    /// What planning is given besides the mesh: the factors are the next words. A recorded element is that of triangles, and stands for quads too where there
+    /// are none.
     pub fn read_assembly(self, words: &mut Words<'_>) -> io::Result<Assembly> {
         Ok(Assembly {
             test: Elements::from(self.test),
