@@ -6,7 +6,7 @@ use Rattle.integrands.specs.declared.Integrand.{Integrand}
 use Rattle.integrands.specs.declared.KindValue.{KindValue}
 use Rattle.integrands.specs.declared.Term.{Term}
 use Rattle.integrands.specs.Terms.{kind_of, integrand_right, kernel_width, table_rows}
-use Rattle.integrands.specs.Values.{term_value, point_value}
+use Rattle.integrands.specs.Values.{curl_curl, term_value, point_value}
 use Rattle.integrands.specs.Parts.{ValueOfKind, has_curls, factored}
 use Rattle.integrands.specs.Columns.{Added}
 use Rattle.integrands.specs.Views.{Covers}
@@ -43,6 +43,10 @@ term_at pair k term i j = term_value term k (row_of pair.test.table i) (row_of p
 -- c·t·r with the factor of a term
 abbrev pub outer_at : PointPair → Term → Float → ℕ → ℕ → Float
 outer_at pair term c i j = factored term (c ⊗ row_of pair.test.table i 0 ⊗ row_of pair.trial.table j 0)
+
+-- the curls of both, c at every kernel value, with the factor of a term
+abbrev pub curls_at : PointPair → Term → Float → ℕ → ℕ → Float
+curls_at pair term c i j = factored term (curl_curl (λ (d : ℕ). c) (row_of pair.test.table i) (row_of pair.trial.table j) pair.test.geometry pair.trial.geometry)
 
 -- the point value of an integrand
 abbrev pub value_at : Integrand → PointPair → ℕ → ℕ → Float

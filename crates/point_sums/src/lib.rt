@@ -3,20 +3,21 @@
 
 ghost use Rattle.function.specs.Elements.{most_dim};
 ghost use Rattle.std.specs.Prelude.{◌≡◌, ℕ, ◌+◌, ◌<◌, ◌≤◌, length, Float, true};
+ghost use Rattle.std.specs.Float.{nan};
+ghost use Rattle.lists.specs.Maps.{Mapped};
 ghost use Rattle.numbers.specs.Floats.{◌⊕◌, ◌⊗◌, ◌!◌};
 ghost use Rattle.table.specs.Views.{row_of};
 ghost use Rattle.integrands.specs.declared.Integrand.{Integrand};
 ghost use Rattle.integrands.specs.declared.Term.{Term};
 ghost use Rattle.integrands.specs.declared.Term.TheVariants as Variants;
 ghost use Rattle.integrands.specs.Terms.{kind_of, table_rows};
-ghost use Rattle.integrands.specs.Parts.{ValueOfKind, has_curls, test_part};
+ghost use Rattle.integrands.specs.Parts.{has_curls, test_part};
 ghost use Rattle.integrands.specs.Columns.{Reads};
 ghost use Rattle.integrands.specs.Views.{Covers};
 ghost use Rattle.integrands.specs.declared.Point.{Point};
-ghost use Rattle.integrands.specs.declared.KindValue.TheVariants as Values;
 ghost use Rattle.point_sums.specs.declared.Parts.{Parts};
 ghost use Rattle.point_sums.specs.Parts.{Long, part_at, Turned};
-ghost use Rattle.point_sums.specs.Reads.{PairReads, kernel_at, ValueAt, HasRows, term_at, outer_at, value_at, AddedAt};
+ghost use Rattle.point_sums.specs.Reads.{PairReads, kernel_at, ValueAt, HasRows, term_at, outer_at, curls_at, value_at, AddedAt};
 
 use function::MOST_DIM;
 use integrands::{Integrand, KindValue, Part, Point, Term};
@@ -112,7 +113,7 @@ fn add_values<T: Copy, B: Fn(usize) -> T, V: Fn(usize, T) -> f64>(
 #[inline(always)]
 fn scale_rows(scaled: &mut [f64; MOST_DIM], c: f64, table: Table)
     requires { (length scaled.old ≡ most_dim) × Covers table }
-    ensures { (b : ℕ) → b < table.entry.dim → scaled.new ! b ≡ c ⊗ row_of table.entry b 0 }
+    ensures { Mapped nan 0 table.entry.dim (λ (b : ℕ) (x : Float). c ⊗ row_of table.entry b 0) scaled.old scaled.new }
 {
     for b in 0..table.dim {
         scaled[b] = c * table.get(b, 0);
@@ -151,12 +152,22 @@ pub fn add_outer(entries: &mut [f64; 100], pair: PointPair, term: Term, c: f64)
     );
 }
 
-// A term with curls; c is its kernel value, and parts are the curls of the test basis functions.
+// The curls of the test basis functions.
+#[inline(always)]
+pub fn turned_parts(test: Point) -> Parts
+    requires { Covers test.table × (3 ≤ test.table.rows) }
+    ensures { Turned test.entry result }
+{
+    let mut parts = NO_PARTS;
+    bring_parts(&mut parts, KindValue::Curls(0.0), test);
+    parts
+}
+
+// A term with curls, with any c; parts are the curls of the test basis functions.
 #[inline(always)]
 pub fn add_curls(entries: &mut [f64; 100], pair: PointPair, parts: &Parts, term: Term, c: f64)
     requires { (length entries.old ≡ 100) × Covers pair.test.table × Covers pair.trial.table × (3 ≤ pair.trial.table.rows) × Turned pair.test parts.now }
-    ensures { (k : ℕ → Float) → ValueOfKind (kind_of term) k pair.entry.test.geometry pair.entry.trial.geometry (Values.Curls c)
-        → AddedAt pair.entry entries.old entries.new (term_at pair.entry k term) }
+    ensures { AddedAt pair.entry entries.old entries.new (curls_at pair.entry term c) }
 {
     let x = KindValue::Curls(c);
     let trial = pair.trial;
@@ -331,9 +342,7 @@ impl<F: Form> AddPoint for Curls<F> {
 
     #[inline(always)]
     fn parts(&self, test: Point) -> Parts {
-        let mut parts = NO_PARTS;
-        bring_parts(&mut parts, KindValue::Curls(0.0), test);
-        parts
+        turned_parts(test)
     }
 
     #[inline(always)]

@@ -4,7 +4,7 @@ use Rattle.table.specs.Views.{row_of}
 use Rattle.integrands.specs.declared.KindValue.TheVariants.{Curls}
 use Rattle.integrands.specs.Parts.{factored, curls, from_parts}
 use Rattle.integrands.specs.Columns.{table_reach}
-use Rattle.integrands.specs.ValueFacts.{term_from}
+use Rattle.integrands.specs.ValueFacts.{curls_from}
 use Rattle.point_sums.specs.Parts.{part_at}
 use Rattle.point_sums.proofs.add_curls.Goals as goal
 
@@ -15,9 +15,9 @@ add_values-requires-clause-may_bring c = λ j l.
     search rules
 
 pub returns : goal.returns
-returns c k at =
+returns c =
     c.add_values.ensures _ (λ i j t x li lj b v.
     let part : t ≡ curls c.args.pair.trial.geometry (row_of c.args.pair.trial.table j) = search rules in
     let value : x ≡ factored c.args.term (from_parts (Curls c.args.c) (part_at c.args.parts.now i) t c.args.pair.test.geometry.jdet c.args.pair.trial.geometry.jdet) = search rules in
     rw (value, part, c.requires.4.right i li)
-    (term_from c.args.term k (row_of c.args.pair.test.table i) (row_of c.args.pair.trial.table j) c.args.pair.test.geometry c.args.pair.trial.geometry at))
+    (curls_from c.args.term (λ d. c.args.c) (row_of c.args.pair.test.table i) (row_of c.args.pair.trial.table j) c.args.pair.test.geometry c.args.pair.trial.geometry c.args.c))

@@ -1,5 +1,6 @@
 -- `point_sums::add_outer` meets its contract: what the closures give at each entry. Assumes nothing.
-use Rattle.std.proofs.Common.{◌≡◌, refl, rules}
+use Rattle.std.proofs.Common.{◌≡◌, arith, refl, rules}
+use Rattle.lists.specs.Maps.{mapped_at}
 use Rattle.numbers.specs.Floats.{◌⊗◌, ◌!◌}
 use Rattle.table.specs.Views.{row_of}
 use Rattle.integrands.specs.Parts.{factored}
@@ -14,4 +15,4 @@ returns c =
     c.add_values.ensures _ (λ i j t x li lj b v.
     let row : t ≡ row_of c.args.pair.trial.table j 0 = search rules in
     let value : x ≡ factored c.args.term (c.scale_rows.new.scaled ! i ⊗ t) = search rules in
-    rw (value, row, c.scale_rows.ensures i li) refl)
+    rw (value, row, mapped_at c.scale_rows.ensures i i li (omega arith)) refl)
