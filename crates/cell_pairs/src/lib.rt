@@ -13,8 +13,15 @@ pub const WIDTH: usize = 3;
 // How many patterns touching pairs have: they are the numbers below this.
 pub const PATTERNS: usize = 149;
 
-// One more than the last pattern: a number below it is a pattern.
+// The same bound, in the type that patterns have: a number below it is a pattern. (By this name the constant of the type is written once, for three uses.)
 pub const NO_PATTERN: u32 = PATTERNS as u32;
+
+// Where the patterns of a triangle test cell with a quad trial cell begin, of a quad with a triangle, and of two quads.
+pub const TRIANGLE_QUAD: usize = 28;
+
+pub const QUAD_TRIANGLE: usize = 64;
+
+pub const QUAD_QUAD: usize = 100;
 
 // The pattern of a distant pair.
 pub const DISTANT: u32 = 255;

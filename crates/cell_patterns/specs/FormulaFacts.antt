@@ -1,5 +1,5 @@
--- Laws of the formula as its number is found: of the place inside a block; of the code of shared vertices; and of the row of the table where the formula points.
--- Assumes nothing.
+-- Laws of the formula as its number is found: of the place inside a block; of the code of shared vertices; and of the row of the table where the formula
+-- points. Assumes nothing.
 use Rattle.std.specs.Prelude.{ℕ, zero, suc, ◌+◌, ◌*◌, ◌^◌, ◌<◌, ◌≤◌, ◌≡◌, refl, Bool, cond, List, [], ◌∷◌, ◌++◌, length, take, get_or, eqb}
 use Rattle.std.proofs.Common.{add-zero, mul-le-mul_right, arith, ◌∙◌}
 use Rattle.std.proofs.Math.Path.{sym, ap, subst}

@@ -1,4 +1,4 @@
--- Pairs of cells in rows (`Flat`), and shared vertices as two lists of places (`Shared`). Laws of shared vertices (`SharedFacts`), of the table as numbers
+-- Pairs of cells in rows (`Flat`), and shared vertices as the code lists them (`Shared`). Laws of shared vertices (`SharedFacts`), of the table as numbers
 -- (`TableRows`), of the formula and the row where it points (`FormulaFacts`), and of patterns, check 7 and the smallest shared vertex (`PatternFacts`).
 pub mod Flat
 pub mod Shared

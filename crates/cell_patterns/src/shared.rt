@@ -11,7 +11,7 @@ ghost use Rattle.triangle_patterns.specs.Triangles.{cells_right};
 ghost use Rattle.pattern_table.specs.Numbers.{code_of};
 ghost use Rattle.cell_patterns.specs.Shared.{place_in, IsPlace, Small, small_fact, matches_in, one_at};
 
-use cell_pairs::NO_PATTERN;
+use cell_pairs::{NO_PATTERN, QUAD_QUAD, QUAD_TRIANGLE, TRIANGLE_QUAD};
 use grid::{edge_joining, second_of};
 use pattern_table::table_row;
 
@@ -72,13 +72,14 @@ fn block_start(n: u32, k: u32) -> u32
 {
     match (n, k) {
         (3, 3) => 0,
-        (3, _) => 28,
-        (_, 3) => 64,
-        _ => 100,
+        (3, _) => TRIANGLE_QUAD as u32,
+        (_, 3) => QUAD_TRIANGLE as u32,
+        _ => QUAD_QUAD as u32,
     }
 }
 
-// Two cells: how many vertices the test cell has, and the trial cell, and those that they share.
+// Two cells: how many vertices the test cell has, and the trial cell, and those that they share. (The two functions below make one each: it borrows the list of
+// the shared vertices, which is a local of theirs, so a constructor would be handed that list, and ask of it what `matches_of` has just told.)
 #[derive(Clone, Copy)]
 struct Meeting<'a> {
     n: u32,

@@ -28,7 +28,8 @@ struct Trial {
     fourth: u32,
 }
 
-// Whether x is one of the trial cell's vertices. By `|` and not `||`, here and below, it is compiled to several comparisons at a time.
+// Whether x is one of the trial cell's vertices. By `|` and not `||`, here and below, it is compiled to several comparisons at a time: with arrays of
+// four, by `any` and `contains`, 27 instructions for the 17 of each pair of cells.
 fn is_one_of(trial: Trial, x: u32) -> bool
     ensures { result ≡ has (trial.first ∷ trial.second ∷ trial.third ∷ trial.fourth ∷ []) x }
 {
@@ -110,7 +111,8 @@ fn write_batch(rows: Rows, tests: &[u32], trials: &[u32], work: &mut [u32], at: 
     next
 }
 
-// Each batch of the test cells of a colour against each batch of the trial cells of a colour.
+// Each batch of the test cells of a colour against each batch of the trial cells of a colour. (That the size of a batch is in its range is asked here and in the
+// two functions that hand it on: a type of such sizes would have to be made by each caller, of the u32 that check 5 has passed.)
 fn write_colours(
     rows: Rows,
     batch: usize,

@@ -50,13 +50,13 @@ fn write_numbers(dofs: &mut [u32], at: usize, n: u32, m: u32)
 }
 
 // Writes the owner records of m DOFs on entity x from `at` on. (By number: each record holds its own.)
-fn write_owners(owners: &mut [u32], at: usize, dimension: u32, x: u32, m: u32)
+fn write_owners(owners: &mut [u32], at: usize, dimension: Dimension, x: u32, m: u32)
     requires { (at + 3 * m ≤ length owners.old) × (m < 65536) }
-    ensures { owners.new ≡ sets owners.old at (owners_on dimension x m) }
+    ensures { owners.new ≡ sets owners.old at (owners_on (dimension_number dimension) x m) }
 {
     for place in 0..m {
         let j = at + 3 * wide(place);
-        owners[j..j + 3].copy_from_slice(&[dimension, x, place]);
+        owners[j..j + 3].copy_from_slice(&[dimension as u32, x, place]);
     }
 }
 
@@ -88,7 +88,7 @@ impl<'a> DofWalk<'a> {
             let n = self.free;
             self.met[i] = n + 1;
             self.free = n + m;
-            write_owners(self.owners, 3 * wide(n), dimension as u32, x, m);
+            write_owners(self.owners, 3 * wide(n), dimension, x, m);
             write_numbers(self.dofs, at, n, m);
         } else {
             write_numbers(self.dofs, at, seen - 1, m);

@@ -17,7 +17,7 @@ use cells_by_key::{Groups, by_key};
 use grid::{MOST_CELLS, MOST_EDGES, Mesh, Rows, count_kind, write_rows};
 use numbers::wide;
 
-// Marks the colours of those cells of a list that are below i. A mark of cell i is i + 1.
+// Marks the colours of those cells of a list that are below i. A mark of cell i is i + 1, and 0 is none: an Option<usize> would take twice the fixed memory.
 fn mark_colours(cells: &[u32], colours: &[u32], i: usize, marks: &mut [usize; MOST_CELLS])
     requires earlier { Earlier colours.now i }
     requires marks_len { length marks.old ≡ most_cells }
@@ -78,7 +78,8 @@ fn next_colour(
     first_unmarked(marks, i)
 }
 
-// The colours of all cells, by their rows and the cells by entity. The marks have a fixed size, since nothing is allocated.
+// The colours of all cells, by their rows and the cells by entity. The marks have a fixed size, since nothing is allocated. (By index: the list is
+// read up to i while place i is written.)
 fn colour_grouped(rows: Rows, groups: Groups, colours: &mut [u32])
     requires by_entity { ByEntity rows.rows.now groups.order.now groups.ends.now × Padded rows.none rows.rows.now }
     requires rows_len { (length rows.rows.now ≡ 4 * length colours.old) × (length colours.old ≤ most_cells) }

@@ -96,12 +96,12 @@ may_short {keys} {top} {count} e x w small =
 
 -- ---- two pairs are the same two exactly when their keys are the same
 
-key_up : (a b : ℕ) → a ≤ b → pair_key a b ≡ most_vertices * a + b
+pub key_up : (a b : ℕ) → a ≤ b → pair_key a b ≡ most_vertices * a + b
 unfolding pair_key
 key_up a b h =
     ⊎_elim (λ l. rw (lt-ltb a b l)) (λ l. let e : most_vertices * b + a ≡ most_vertices * a + b = omega arith in rw (le-ltb a b l) e) (lt_or_le a b)
 
-key_down : (a b : ℕ) → b ≤ a → pair_key a b ≡ most_vertices * b + a
+pub key_down : (a b : ℕ) → b ≤ a → pair_key a b ≡ most_vertices * b + a
 unfolding pair_key
 key_down a b h = rw (le-ltb a b h)
 

@@ -1,4 +1,5 @@
-// Checks 1, 26, 2 and 3 of a mesh, in their order.
+// Checks 1, 26, 2 and 3 of a mesh, in their order. (Each function asks for what it needs of the lists, that there are few cells or that the lists are `Shaped`,
+// and no type holds it: a list of kinds that C lends is not known to be of a mesh before the checks so far have passed.)
 ghost use Rattle.std.specs.Prelude.{◌≡◌, ◌≤◌, true, [], ◌∷◌, length, eqb};
 ghost use Rattle.lists.specs.Bool.{◌and◌, every};
 ghost use Rattle.lists.specs.Bounded.{all};

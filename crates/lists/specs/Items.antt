@@ -1,5 +1,5 @@
--- What a walk over a list or over the numbers below n answers, in our words: `.iter().all(..)` is `all`, `.iter().any(..)` is `some`, and `(0..n).find(..)` finds
--- `least`. The hypotheses are what the library's `cases_from_all`, `cases_from_any` and `first_from_Range` conclude. Assumes nothing.
+-- What a walk over a list or over the numbers below n answers, in our words: `.iter().all(..)` is `all`, `.iter().any(..)` is `some`, and `(0..n).find(..)`
+-- finds `least`. The hypotheses are what the library's `cases_from_all`, `cases_from_any` and `first_from_Range` conclude. Assumes nothing.
 use Rattle.std.specs.Prelude.{ℕ, ◌<◌, ◌≤◌, ◌≡◌, Bool, true, false, List, length, get_or, MatchBool, MatchOption, Option, None, Some, unwrap_or}
 use Rattle.std.specs.List.{AllWithin, HoldsAt, range_with_len}
 use Rattle.std.proofs.Common.{arith, sym, ap, ◌∙◌, zero-le}

@@ -26,13 +26,9 @@ pub fn is_finite(x: f64) -> bool
     x.is_finite()
 }
 
-// Whether each number of the list is finite. All are read, whatever the first is.
+// Whether each number of the list is finite.
 pub fn all_finite(s: &[f64]) -> bool
     ensures { result ≡ all_finite s.now }
 {
-    let mut ok = true;
-    for &x in s {
-        ok &= is_finite(x);
-    }
-    ok
+    s.iter().all(|&x| is_finite(x))
 }

@@ -6,7 +6,8 @@ ghost use Rattle.cell_pairs.specs.Records.{pattern_count};
 ghost use Rattle.pattern_table.specs.Numbers.{code_at};
 
 // The digits of a row: the kinds of the test and of the trial cell, then for each shared vertex its test place and its trial place. 34_10_22 is a triangle
-// and a quad whose vertices 0 and 2 are the triangle's 1 and 2. A row is one number, and not a list, since the compiler lays a constant out anew at each reading.
+// and a quad whose vertices 0 and 2 are the triangle's 1 and 2. A row is one number, and not a list, since the compiler lays a constant out anew at each
+// reading.
 const PATTERNS: [u64; 149] = [
     // 0 to 27: triangle test, triangle trial
     33_00,

@@ -1,5 +1,5 @@
--- Laws of the mesh of some rows: its cells are those in the rows; what the counting theorem asks of it; and where the rows are those of a mesh, the touching part and
--- the touching pairs per two kinds are that mesh's. Assumes nothing.
+-- Laws of the mesh of some rows: its cells are those in the rows; what the counting theorem asks of it; and where the rows are those of a mesh, the
+-- touching part and the touching pairs per two kinds are that mesh's. Assumes nothing.
 use Rattle.std.specs.Prelude.{ℕ, suc, zero, ◌+◌, ◌*◌, ◌<◌, ◌≤◌, ◌≡◌, refl, ◌⊎◌, Bool, false, not, cond, get_or, take, drop, eqb, ltb}
 use Rattle.std.proofs.Common.{add-one, arith, ap₂, ◌∙◌, inl, inr, take_all, take-add}
 use Rattle.std.proofs.Math.Path.{sym, ap, subst}

@@ -14,7 +14,8 @@ ghost use Rattle.triangle_patterns.specs.TrianglesFacts.{three_pattern};
 
 use grid::Rows;
 
-// The place of the vertex x in a triangle, 3 where it has none. A number and not an Option, since it is two bits of a case, and three tests are no longer than a search.
+// The place of the vertex x in a triangle, 3 where it has none. A number and not an Option, since it is two bits of a case, and three tests are no
+// longer than a search.
 fn place_of(rows: Rows, cell: usize, x: u32) -> u32
     requires { 4 * cell + 4 ≤ length rows.rows.now }
     ensures { result ≡ place (three rows.entry.rows.now cell) x }
@@ -43,8 +44,8 @@ fn all_three(a: u32, b: u32, c: u32) -> Option<u32>
     }
 }
 
-// The pattern of triangles whose trial vertices 0, 1 and 2 have the test places a, b and c, 3 for one that is not shared. A case is these three, two bits each, and
-// beside it stands its list of (test place, trial place).
+// The pattern of triangles whose trial vertices 0, 1 and 2 have the test places a, b and c, 3 for one that is not shared. A case is these three, two bits each,
+// and beside it stands its list of (test place, trial place).
 fn pattern_at(a: u32, b: u32, c: u32) -> Option<u32>
     requires { Places a b c }
     ensures { IsPattern result (number_of (pattern 3 3 (matches_at a b c))) }

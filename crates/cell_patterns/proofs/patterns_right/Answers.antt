@@ -1,4 +1,5 @@
--- `cell_patterns::patterns_right` meets its contract: the cells are grouped by vertex, and those at each vertex pass exactly where all pairs do. Assumes nothing.
+-- `cell_patterns::patterns_right` meets its contract: the cells are grouped by vertex, and those at each vertex pass exactly where all pairs do.
+-- Assumes nothing.
 use Prim.Native.Nat.{ℕ, ◌+◌, ◌*◌, ◌/◌, ◌≤◌}
 use native.Mathlib.Omega.{arith}
 use mathlib.Core.Path.{◌≡◌, sym, ap, subst, ◌∙◌}

@@ -1,21 +1,16 @@
--- See Invariants.antt. Assumes nothing.
-use mathlib.Core.Path.{◌≡◌, sym}
-use native.Mathlib.Omega.{arith}
-use lib.ListN.{length}
-use Rattle.lists.specs.Bool.{◌and◌}
-use Rattle.lists.specs.Bounded.{all_none, all_next}
-use Rattle.numbers.specs.Floats.{all_finite}
+-- `numbers::all_finite` meets its contract: what `all` answers, in our word. Assumes nothing.
+use mathlib.Core.Bool.{true, false}
+use mathlib.Core.Path.{◌≡◌}
+use Rattle.std.proofs.lemmas.Iterator.{cases_from_all, YieldsList-from_slice}
+use Rattle.std.specs.Float.{nan}
+use Rattle.lists.specs.Items.{all_items}
+use Rattle.numbers.specs.Floats.{finite, all_finite}
+use borrow.Author.Rules.{rules}
+use borrow.Author.Tests.{tests}
 use Rattle.numbers.proofs.all_finite.Goals as goal
-
-pub loop-x-init : goal.loop-x-init
-loop-x-init c = sym (all_none _)
-
-pub loop-x-preserved : goal.loop-x-preserved
-unfolding ◌and◌
-loop-x-preserved c = rw (c.loop-x.invariant, c.is_finite-ok.ensures) (sym (all_next _ _))
 
 pub returns : goal.returns
 unfolding all_finite
 returns c =
-    let end : c.loop-x.x-index ≡ length c.args.s.now = omega arith in
-    rw end at c.loop-x.invariant
+    let xs = c.args.s.now in
+    all_items nan finite xs _ (cases_from_all _ _ _ (λ x. finite x ≡ true) (λ x. finite x ≡ false) c.all.ensures.ran (YieldsList-from_slice xs cc) (λ x q k. search (rules, tests)) (λ x q k. search (rules, tests)))

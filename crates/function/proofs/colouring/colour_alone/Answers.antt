@@ -1,4 +1,4 @@
--- `function::colouring::colour_alone` meets its contract: each colour is 0 by `smallest_alone`. Assumes nothing.
+-- `function::colouring::colour_alone` meets its contract: each colour is 0 by `colours_alone`. Assumes nothing.
 use mathlib.Core.Path.{sym, ◌∙◌}
 use Rattle.function.specs.ColoursFacts.{colours_alone}
 use Rattle.function.proofs.colouring.colour_alone.Goals as goal

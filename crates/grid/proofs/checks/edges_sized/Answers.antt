@@ -1,4 +1,4 @@
--- `grid::checks::edges_sized` meets its contract: `&` of the tests is `_and_`. Assumes nothing.
+-- `grid::checks::edges_sized` meets its contract: `&` of the tests is `◌and◌`. Assumes nothing.
 use mathlib.Core.Bool.{Bool, true, false, ◌&&◌}
 use mathlib.Core.List.{[], ◌∷◌}
 use mathlib.Core.Path.{◌≡◌, refl}

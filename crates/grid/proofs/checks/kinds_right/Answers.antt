@@ -1,4 +1,4 @@
--- `grid::checks::kinds_right` meets its contract: `&` of the two tests is `_and_`. Assumes nothing.
+-- `grid::checks::kinds_right` meets its contract: `&` of the two tests is `◌and◌`. Assumes nothing.
 use Rattle.lists.specs.Bool.{◌and◌}
 use Rattle.grid.specs.Mesh.{kinds_right}
 use Rattle.grid.proofs.checks.kinds_right.Goals as goal

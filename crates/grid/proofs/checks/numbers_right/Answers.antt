@@ -1,4 +1,4 @@
--- `grid::checks::numbers_right` meets its contract: `&` of the two tests is `_and_`. Assumes nothing.
+-- `grid::checks::numbers_right` meets its contract: `&` of the two tests is `◌and◌`. Assumes nothing.
 use mathlib.Core.Path.{◌∙◌}
 use Rattle.lists.specs.Bool.{◌and◌}
 use Rattle.numbers.specs.Ranges.{contains_within}

@@ -1,4 +1,4 @@
--- `grid::checks::vertices_right` meets its contract: `&` of the tests is `_and_`. Assumes nothing.
+-- `grid::checks::vertices_right` meets its contract: `&` of the tests is `◌and◌`. Assumes nothing.
 use Rattle.lists.specs.Bool.{◌and◌, every}
 use Rattle.grid.proofs.checks.vertices_right.Goals as goal
 

@@ -1,4 +1,4 @@
--- `grid::edge_rule::may_have` meets its contract: the two ways of the test are the two cases of the first `_or_`. Assumes nothing.
+-- `grid::edge_rule::may_have` meets its contract: the two ways of the test are the two cases of the first `◌or◌`. Assumes nothing.
 use borrow.Author.Tests.{eq-eqb, ne_eqb}
 use Rattle.lists.specs.Bool.{◌and◌, ◌or◌}
 use Rattle.grid.specs.EdgeRule.{may_have}

@@ -1,4 +1,5 @@
--- `cell_patterns::shared::Meeting::pattern_number` meets its contract: the row of the table where the formula points has the pattern, or none has. Assumes nothing.
+-- `cell_patterns::shared::Meeting::pattern_number` meets its contract: the row of the table where the formula points has the pattern, or none
+-- has. Assumes nothing.
 use mathlib.Core.Path.{sym}
 use native.Mathlib.Omega.{arith}
 use Rattle.cell_patterns.specs.TableRows.{shared_decimal}
