@@ -1,4 +1,5 @@
--- A point value in parts, as the code works it out: what belongs to the point, and what each basis function brings. x are the table rows of one. Assumes nothing.
+-- A point value in parts, as the code works it out: what belongs to the point, and what each basis function brings. x are the table rows of one.
+-- Assumes nothing.
 use Rattle.std.specs.Prelude.{ℕ, Bool, true, false, ◌≡◌, eqb, Float}
 use Rattle.numbers.specs.Floats.{0·0, ◌⊕◌, ◌⊗◌, ◌⊘◌}
 use Rattle.integrands.specs.declared.Geometry.{Geometry}

@@ -1,7 +1,8 @@
 -- What the structs that a pair is lent stand for, and checks 10 and 11 side by side. Assumes nothing.
-use Rattle.std.specs.Prelude.{ℕ, ◌*◌, Bool, true, false, not, ◌&&◌, ◌≡◌, refl, List, [], ◌∷◌, length, eqb, Float}
+use Rattle.std.specs.Prelude.{ℕ, ◌*◌, ◌≤◌, Bool, true, false, not, ◌&&◌, ◌≡◌, refl, List, [], ◌∷◌, length, eqb, Float}
 use native.Mathlib.Omega.{arith}
 use Rattle.lists.specs.Bool.{◌and◌, every, turned, passed}
+use Rattle.function.specs.Elements.{most_dim}
 use Rattle.numbers.specs.Floats.{all_finite}
 use Rattle.integrands.specs.declared.Integrand.{Integrand}
 use Rattle.integrands.specs.declared.Point.{Point}
@@ -30,6 +31,14 @@ trial_of a = record { points = a.points; weights = a.weights; table = a.trial_ta
 -- point p of a side, with D table rows and n basis functions
 abbrev pub point_of : ℕ → ℕ → Side → ℕ → Point
 point_of D n s p = record { geometry = geometry_at s.geometry.now p; table = record { values = s.table; rows = D; points = s.points; dim = n; point = p } }
+
+-- of a local matrix: at most ten basis functions of each
+abbrev pub Few : LocalForm → Type 0
+Few l = (l.test_dim ≤ most_dim) × (l.trial_dim ≤ most_dim)
+
+-- of a side: ten numbers of geometry for each point
+abbrev pub HasGeometry : Side → Type 0
+HasGeometry s = 10 * s.points ≤ length s.geometry.now
 
 -- of a side with D table rows and n basis functions
 abbrev pub side_lengths : ℕ → ℕ → Side → Bool

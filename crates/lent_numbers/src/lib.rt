@@ -7,7 +7,7 @@ ghost use Rattle.lists.specs.Refusals.{refusal};
 ghost use Rattle.refusals.specs.Numbers.{told};
 ghost use Rattle.numbers.specs.Ranges.{within};
 ghost use Rattle.lent_numbers.specs.Lent.{most_touching_points, most_distant_points, most_point_pairs, jdets_above0, touching_lengths, touching_numbers, touching_checks, distant_lengths, distant_numbers, distant_checks};
-ghost use Rattle.lent_numbers.specs.Forms.{touching_of, distant_of, test_of, trial_of, point_of, side_lengths, side_numbers, pair_lengths};
+ghost use Rattle.lent_numbers.specs.Forms.{touching_of, distant_of, test_of, trial_of, point_of, side_lengths, side_numbers, pair_lengths, Few, HasGeometry};
 
 use integrands::{Integrand, Point};
 use numbers::all_finite;
@@ -77,17 +77,12 @@ fn count_right(points: usize, most: usize) -> bool
     (1..=most).contains(&points)
 }
 
-// Whether each jdet is above 0. All are read, whatever the first is.
-// By index: of each ten numbers one is read, and in chunks of ten that one would have an index too.
+// Whether each jdet is above 0. By number: of each ten numbers one is read, and in chunks of ten that one would have a number too.
 fn jdets_above_0(s: &[f64], points: usize) -> bool
     requires { 10 * points ≤ length s.now }
     ensures { result ≡ jdets_above0 s.now points }
 {
-    let mut ok = true;
-    for p in 0..points {
-        ok = ok & (0.0 < s[10 * p]);
-    }
-    ok
+    (0..points).all(|p| 0.0 < s[10 * p])
 }
 
 // Check 10 of a pair: that of both sides, and one point's kernel values for each of so many points.
@@ -98,7 +93,7 @@ fn pair_lengths_right(
     kernel: &[f64],
     points: usize,
 ) -> bool
-    requires { (local.test_dim ≤ most_dim) × (local.trial_dim ≤ most_dim) × (test.points ≤ most_touching_points) × (trial.points ≤ most_touching_points) × (points ≤ most_point_pairs) }
+    requires { Few local × (test.points ≤ most_touching_points) × (trial.points ≤ most_touching_points) × (points ≤ most_point_pairs) }
     ensures { result ≡ pair_lengths local test.entry trial.entry kernel.now points }
 {
     let rows = integrands::table_rows(local.integrand);
@@ -132,7 +127,7 @@ impl<'a> Side<'a> {
 
     // Check 11 of a side's table and geometry.
     fn numbers_right(self) -> bool
-        requires { 10 * self.points ≤ length self.geometry.now }
+        requires { HasGeometry self }
         ensures { result ≡ side_numbers self.entry }
     {
         all_finite(self.table)
@@ -142,31 +137,33 @@ impl<'a> Side<'a> {
 }
 
 impl<'a> TouchingNumbers<'a> {
-    pub fn test(self) -> Side<'a>
-        ensures { result ≡ test_of self.entry }
+    // One of its two sides: both have the same points.
+    fn side(self, table: &'a [f64], geometry: &'a [f64]) -> Side<'a>
+        ensures { (result.points ≡ self.entry.points) × (result.weights ≡ self.entry.weights) × (result.table ≡ table.entry) × (result.geometry ≡ geometry.entry) }
     {
         Side {
             points: self.points,
             weights: self.weights,
-            table: self.test_table,
-            geometry: self.test_geometry,
+            table,
+            geometry,
         }
+    }
+
+    pub fn test(self) -> Side<'a>
+        ensures { result ≡ test_of self.entry }
+    {
+        self.side(self.test_table, self.test_geometry)
     }
 
     pub fn trial(self) -> Side<'a>
         ensures { result ≡ trial_of self.entry }
     {
-        Side {
-            points: self.points,
-            weights: self.weights,
-            table: self.trial_table,
-            geometry: self.trial_geometry,
-        }
+        self.side(self.trial_table, self.trial_geometry)
     }
 
     // Check 10.
     fn lengths_right(self, local: LocalForm) -> bool
-        requires { (local.test_dim ≤ most_dim) × (local.trial_dim ≤ most_dim) × (self.points ≤ most_touching_points) }
+        requires { Few local × (self.points ≤ most_touching_points) }
         ensures { result ≡ touching_lengths local.integrand local.test_dim local.trial_dim (touching_of self.entry) }
     {
         pair_lengths_right(local, self.test(), self.trial(), self.kernel, self.points)
@@ -174,7 +171,7 @@ impl<'a> TouchingNumbers<'a> {
 
     // Check 11.
     fn numbers_right(self) -> bool
-        requires { (10 * self.points ≤ length self.test_geometry.now) × (10 * self.points ≤ length self.trial_geometry.now) }
+        requires { HasGeometry (test_of self) × HasGeometry (trial_of self) }
         ensures { (f : _) (m n : ℕ) → result ≡ touching_numbers f m n (touching_of self.entry) }
     {
         all_finite(self.weights)
@@ -186,7 +183,7 @@ impl<'a> TouchingNumbers<'a> {
     // Checks 9 to 11: the first that turns the pair down, if any.
     // Written for both sorts of pair: each of the three steps is another, and a trait of the three with their clauses is longer than what both share.
     pub fn check(self, local: LocalForm) -> Result<(), Refusal>
-        requires { (local.test_dim ≤ most_dim) × (local.trial_dim ≤ most_dim) }
+        requires { Few local }
         ensures { told result ≡ refusal (touching_checks local.integrand local.test_dim local.trial_dim (touching_of self.entry)) }
     {
         if !count_right(self.points, MOST_TOUCHING_POINTS) {
@@ -205,7 +202,7 @@ impl<'a> TouchingNumbers<'a> {
 impl<'a> DistantNumbers<'a> {
     // Check 10.
     fn lengths_right(self, local: LocalForm) -> bool
-        requires { (local.test_dim ≤ most_dim) × (local.trial_dim ≤ most_dim) × (self.test.points ≤ most_distant_points) × (self.trial.points ≤ most_distant_points) }
+        requires { Few local × (self.test.points ≤ most_distant_points) × (self.trial.points ≤ most_distant_points) }
         ensures { result ≡ distant_lengths local.integrand local.test_dim local.trial_dim (distant_of self.entry) }
     {
         let points = self.test.points * self.trial.points;
@@ -214,7 +211,7 @@ impl<'a> DistantNumbers<'a> {
 
     // Check 11.
     fn numbers_right(self) -> bool
-        requires { (10 * self.test.points ≤ length self.test.geometry.now) × (10 * self.trial.points ≤ length self.trial.geometry.now) }
+        requires { HasGeometry self.test × HasGeometry self.trial }
         ensures { (f : _) (m n : ℕ) → result ≡ distant_numbers f m n (distant_of self.entry) }
     {
         all_finite(self.test.weights)
@@ -226,7 +223,7 @@ impl<'a> DistantNumbers<'a> {
 
     // Checks 9 to 11: the first that turns the pair down, if any.
     pub fn check(self, local: LocalForm) -> Result<(), Refusal>
-        requires { (local.test_dim ≤ most_dim) × (local.trial_dim ≤ most_dim) }
+        requires { Few local }
         ensures { told result ≡ refusal (distant_checks local.integrand local.test_dim local.trial_dim (distant_of self.entry)) }
     {
         if !(count_right(self.test.points, MOST_DISTANT_POINTS)

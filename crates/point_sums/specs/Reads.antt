@@ -22,6 +22,10 @@ pub record PairReads (f : Integrand) (pair : PointPair) : Type 0 where
   pub trial_rows : pair.trial.table.rows ≡ table_rows f
   pub kernel : pair.at + kernel_width f ≤ length pair.kernel.now
 
+-- room for the entries, and tables that reach over the basis functions
+abbrev pub MayAdd : PointPair → List Float → Type 0
+MayAdd pair entries = (length entries ≡ 100) × Covers pair.test.table × Covers pair.trial.table
+
 -- kernel value d of the pair
 abbrev pub kernel_at : PointPair → ℕ → Float
 kernel_at pair d = pair.kernel.now ! (d + pair.at)

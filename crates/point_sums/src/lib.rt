@@ -17,7 +17,7 @@ ghost use Rattle.integrands.specs.Views.{Covers};
 ghost use Rattle.integrands.specs.declared.Point.{Point};
 ghost use Rattle.point_sums.specs.declared.Parts.{Parts};
 ghost use Rattle.point_sums.specs.Parts.{Long, part_at, Turned};
-ghost use Rattle.point_sums.specs.Reads.{PairReads, kernel_at, ValueAt, HasRows, term_at, outer_at, curls_at, value_at, AddedAt};
+ghost use Rattle.point_sums.specs.Reads.{PairReads, MayAdd, kernel_at, ValueAt, HasRows, term_at, outer_at, curls_at, value_at, AddedAt};
 
 use function::MOST_DIM;
 use integrands::{Integrand, KindValue, Part, Point, Term};
@@ -138,7 +138,7 @@ fn bring_parts(parts: &mut Parts, x: KindValue, test: Point)
 // A term other than curl-curl, with any c: c·t·r with its factor.
 #[inline(always)]
 pub fn add_outer(entries: &mut [f64; 100], pair: PointPair, term: Term, c: f64)
-    requires { (length entries.old ≡ 100) × Covers pair.test.table × Covers pair.trial.table }
+    requires { MayAdd pair entries.old }
     ensures { AddedAt pair.entry entries.old entries.new (outer_at pair.entry term c) }
 {
     let trial = pair.trial.table;
@@ -152,7 +152,7 @@ pub fn add_outer(entries: &mut [f64; 100], pair: PointPair, term: Term, c: f64)
     );
 }
 
-// The curls of the test basis functions.
+// The curls of the test basis functions. (The 0 is not read: only a value without curls has c before its row.)
 #[inline(always)]
 pub fn turned_parts(test: Point) -> Parts
     requires { Covers test.table × (3 ≤ test.table.rows) }
@@ -166,7 +166,7 @@ pub fn turned_parts(test: Point) -> Parts
 // A term with curls, with any c; parts are the curls of the test basis functions.
 #[inline(always)]
 pub fn add_curls(entries: &mut [f64; 100], pair: PointPair, parts: &Parts, term: Term, c: f64)
-    requires { (length entries.old ≡ 100) × Covers pair.test.table × Covers pair.trial.table × (3 ≤ pair.trial.table.rows) × Turned pair.test parts.now }
+    requires { MayAdd pair entries.old × (3 ≤ pair.trial.table.rows) × Turned pair.test parts.now }
     ensures { AddedAt pair.entry entries.old entries.new (curls_at pair.entry term c) }
 {
     let x = KindValue::Curls(c);
@@ -184,7 +184,7 @@ pub fn add_curls(entries: &mut [f64; 100], pair: PointPair, parts: &Parts, term:
 // Two terms other than curl-curl, first plus second: c·t·r and d·t·r, each with its factor.
 #[inline(always)]
 fn add_outers(entries: &mut [f64; 100], pair: PointPair, first: Term, c: f64, second: Term, d: f64)
-    requires { (length entries.old ≡ 100) × Covers pair.test.table × Covers pair.trial.table }
+    requires { MayAdd pair entries.old }
     ensures { AddedAt pair.entry entries.old entries.new (λ (i j : ℕ). outer_at pair.entry first c i j ⊕ outer_at pair.entry second d i j) }
 {
     let trial = pair.trial.table;
@@ -214,7 +214,7 @@ fn add_two(
     second: Term,
     y: KindValue,
 )
-    requires reads { (length entries.old ≡ 100) × Covers pair.test.table × Covers pair.trial.table × HasRows pair x × HasRows pair y }
+    requires reads { MayAdd pair entries.old × HasRows pair x × HasRows pair y }
     requires first { ValueAt pair first x }
     requires second { ValueAt pair second y }
     ensures { AddedAt pair.entry entries.old entries.new (λ (i j : ℕ). term_at pair.entry (kernel_at pair.entry) first i j ⊕ term_at pair.entry (kernel_at pair.entry) second i j) }
@@ -253,7 +253,7 @@ pub trait AddPoint {
     // What holds of the parts of a test point.
     ghost ready: { Self → Point → Parts → Type 0 };
 
-    // What is worked out once for a test point.
+    // What is worked out once for a test point: `NO_PARTS` where nothing is. (Each type says so itself: it has to meet `ready`, which here is not known.)
     fn parts(&self, test: Point) -> Parts
         requires { suits self.now × Covers test.table × (test.table.rows ≡ table_rows (integrand self.now)) }
         ensures { ready self.now test.entry result };
@@ -381,7 +381,8 @@ impl AddPoint for Outers {
     }
 }
 
-// Two terms, of which one has curls or both have. (`add` begins as that of `Outers`, and what they share is a read of each term and its value.)
+// Two terms, of which one has curls or both have. (`add` begins as that of `Outers`, and what they share is a read of each term and its value. Two types, since
+// which of the two sums it is holds for a whole pair of cells: the type chooses it once, where a flag would choose at each pair of points.)
 #[derive(Clone, Copy)]
 pub struct Two {
     pub integrand: Integrand,

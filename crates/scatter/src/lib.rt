@@ -2,8 +2,7 @@
 #![tactic(auto)]
 
 ghost use Rattle.function.specs.Elements.{most_dim};
-ghost use Rattle.std.specs.Prelude.{◌≡◌, ℕ, ◌+◌, ◌*◌, ◌≤◌, ◌<◌, length, map};
-ghost use Rattle.lists.specs.Range.{range};
+ghost use Rattle.std.specs.Prelude.{◌≡◌, ℕ, ◌+◌, ◌*◌, ◌≤◌, length};
 ghost use Rattle.std.proofs.lemmas.List.Edits.{sets};
 ghost use Rattle.numbers.specs.Floats.{◌!◌};
 ghost use Rattle.scatter.specs.Adding.{add_local, local_rows, local_columns, local_values};
@@ -12,7 +11,7 @@ ghost use Rattle.scatter.specs.Lent.{SameLists};
 
 use numbers::wide;
 
-// The DOFs of a local matrix's rows and columns, and its entries.
+// The DOFs of a local matrix's rows and columns, and its entries: room for MOST_DIM·MOST_DIM, of which as many are filled as there are pairs of DOFs.
 #[derive(Clone, Copy)]
 pub struct LocalMatrix<'a> {
     pub test_dofs: &'a [u32],
@@ -37,17 +36,6 @@ fn add_column(matrix: &mut [f64], rows: usize, base: usize, test_dofs: &[u32], e
 {
     for (&row, &entry) in test_dofs.iter().zip(entries) {
         matrix[wide(row) + base] += entry;
-    }
-}
-
-// The entries of trial basis function j, one for each place of the list. (By index and not as a slice: here stands the order that the lists promise, i + m·j.)
-fn write_column(values: &mut [f64], entries: &[f64; 100], j: usize)
-    requires { (length values.old ≤ most_dim) × (j < most_dim) }
-    ensures { values.new ≡ map (λ (i : ℕ). entry_at entries.now (length values.old) i j) (range (length values.old)) }
-{
-    let m = values.len();
-    for (i, value) in values.iter_mut().enumerate() {
-        *value = entries[i + m * j];
     }
 }
 
@@ -103,10 +91,12 @@ impl LocalMatrix<'_> {
         ensures { values.new ≡ sets values.old at
             (local_values (entry_at self.entry.entries.now (length self.entry.test_dofs.now)) (length self.entry.test_dofs.now) (length self.entry.trial_dofs.now)) }
     {
+        let entries = self.entries;
         let m = self.test_dofs.len();
         for j in 0..self.trial_dofs.len() {
-            let place = at + m * j;
-            write_column(&mut values[place..place + m], self.entries, j);
+            let first = m * j;
+            let place = at + first;
+            values[place..place + m].copy_from_slice(&entries[first..first + m]);
         }
     }
 }

@@ -1,4 +1,4 @@
-// A lent table, and a thin view of it that gives row values at a point and a basis function, as `Table` of the Rust's integrands.
+// A lent table at a point, and `View`, a thin view of it that gives row values at a point and a basis function, which is `Table` of the Rust's integrands.
 #![tactic(auto)]
 
 ghost use Rattle.std.specs.Prelude.{◌≡◌, ◌<◌};

@@ -1,21 +1,24 @@
--- See Invariants.antt. Assumes nothing.
-use mathlib.Core.Path.{◌≡◌, sym}
+-- `lent_numbers::jdets_above_0` meets its contract. Assumes nothing.
+use Rattle.std.proofs.Common.{rules, refl}
+use borrow.Author.Tests.{tests}
+use Rattle.std.proofs.lemmas.Iterator.{cases_from_all, YieldsList-from_range, serves_from_Range}
+use mathlib.Core.Bool.{true, false}
+use mathlib.Core.Path.{◌≡◌}
+use Prim.Native.Nat.{◌*◌}
+use lib.Ieee as Ieee
 use native.Mathlib.Omega.{arith}
-use Rattle.lists.specs.Bool.{◌and◌}
-use Rattle.lists.specs.Bounded.{all_none, all_next}
+use Rattle.lists.specs.Items.{all_numbers}
+use Rattle.numbers.specs.Floats.{0·0, ◌!◌}
 use Rattle.lent_numbers.specs.Lent.{jdets_above0}
-use borrow.Author.Rules.{rules}
 use Rattle.lent_numbers.proofs.jdets_above_0.Goals as goal
 
-pub loop-p-init : goal.loop-p-init
-loop-p-init c = (search rules, sym (all_none _))
-
-pub loop-p-preserved : goal.loop-p-preserved
-unfolding ◌and◌
-loop-p-preserved c = (search rules, rw c.loop-p.invariant.1 (sym (all_next _ _)))
+pub all-requires-clause-callable : goal.all-requires-clause-callable
+all-requires-clause-callable c = serves_from_Range (λ x q k. search rules) (λ x k l. search rules)
 
 pub returns : goal.returns
 unfolding jdets_above0
 returns c =
-    let end : c.loop-p.p ≡ c.args.points = omega arith in
-    rw end at c.loop-p.invariant.1
+    let points = c.args.points in
+    let test = λ (p : _). Ieee.lt 0·0 (c.args.s.now ! (10 * p)) in
+    all_numbers points test _
+    (cases_from_all _ _ _ (λ p. test p ≡ true) (λ p. test p ≡ false) c.all.ensures.ran (YieldsList-from_range 0 points points refl (omega arith)) (λ x q k. search (rules, tests)) (λ x q k. search (rules, tests)))

@@ -10,8 +10,8 @@ use Rattle.point_sums.proofs.add_curls.Goals as goal
 
 pub add_values-requires-clause-may_bring : goal.add_values-requires-clause-may_bring
 add_values-requires-clause-may_bring c = λ j l.
-    let reach = table_reach c.requires.2 j l in
-    let rows : 3 ≤ c.args.pair.trial.table.rows = c.requires.3 in
+    let reach = table_reach c.requires.0.2 j l in
+    let rows : 3 ≤ c.args.pair.trial.table.rows = c.requires.1 in
     search rules
 
 pub returns : goal.returns
@@ -19,5 +19,5 @@ returns c =
     c.add_values.ensures _ (λ i j t x li lj b v.
     let part : t ≡ curls c.args.pair.trial.geometry (row_of c.args.pair.trial.table j) = search rules in
     let value : x ≡ factored c.args.term (from_parts (Curls c.args.c) (part_at c.args.parts.now i) t c.args.pair.test.geometry.jdet c.args.pair.trial.geometry.jdet) = search rules in
-    rw (value, part, c.requires.4.right i li)
+    rw (value, part, c.requires.2.right i li)
     (curls_from c.args.term (λ d. c.args.c) (row_of c.args.pair.test.table i) (row_of c.args.pair.trial.table j) c.args.pair.test.geometry c.args.pair.trial.geometry c.args.c))

@@ -10,9 +10,9 @@ use Rattle.point_sums.proofs.add_two.Goals as goal
 
 pub add_values-requires-clause-may_bring : goal.add_values-requires-clause-may_bring
 add_values-requires-clause-may_bring c = λ j l.
-    let reach = table_reach c.requires.reads.2 j l in
-    let rows : has_curls c.args.x ≡ true → 3 ≤ c.args.pair.trial.table.rows = λ e. (c.requires.reads.3 e).1 in
-    let more : has_curls c.args.y ≡ true → 3 ≤ c.args.pair.trial.table.rows = λ e. (c.requires.reads.4 e).1 in
+    let reach = table_reach c.requires.reads.0.2 j l in
+    let rows : has_curls c.args.x ≡ true → 3 ≤ c.args.pair.trial.table.rows = λ e. (c.requires.reads.1 e).1 in
+    let more : has_curls c.args.y ≡ true → 3 ≤ c.args.pair.trial.table.rows = λ e. (c.requires.reads.2 e).1 in
     search rules
 
 pub returns : goal.returns

@@ -14,7 +14,7 @@ returns-then-not-count_right c = answers (refused (counts_turned c.count_right.e
 pub lengths_right-requires : goal.lengths_right-requires
 lengths_right-requires c =
     let most = few_points c.args.self.test.points c.args.self.trial.points (counts_passed c.count_right.ensures c.count_right-2.ensures c.if-not-count_right.false-raw) in
-    (c.requires.0, c.requires.1, most.0, most.1)
+    (c.requires, most.0, most.1)
 
 pub returns-then-not-lengths_right : goal.returns-then-not-lengths_right
 unfolding distant_counts

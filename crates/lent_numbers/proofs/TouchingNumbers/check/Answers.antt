@@ -12,7 +12,7 @@ unfolding touching_count
 returns-then-not-count_right c = answers (refused (turned c.count_right.ensures c.if-not-count_right.true-raw))
 
 pub lengths_right-requires : goal.lengths_right-requires
-lengths_right-requires c = (c.requires.0, c.requires.1, within_high 1 most_touching_points c.args.self.points (passed c.count_right.ensures c.if-not-count_right.false-raw))
+lengths_right-requires c = (c.requires, within_high 1 most_touching_points c.args.self.points (passed c.count_right.ensures c.if-not-count_right.false-raw))
 
 pub returns-then-not-lengths_right : goal.returns-then-not-lengths_right
 unfolding touching_count

@@ -19,9 +19,7 @@ add_two-requires-clause-reads c =
     let f = c.args.self.now.integrand in
     let rows = curls_rows c.value-x.ensures (first_rows f) in
     let more = curls_rows c.value-y.ensures (second_rows f (second_is_read f c.requires.1)) in (
-      c.requires.0,
-      c.requires.2.test,
-      c.requires.2.trial,
+      (c.requires.0, c.requires.2.test, c.requires.2.trial),
       λ h. (omega (arith, c.requires.2.test_rows, rows h), omega (arith, c.requires.2.trial_rows, rows h)),
       λ h. (omega (arith, c.requires.2.test_rows, more h), omega (arith, c.requires.2.trial_rows, more h)),
     )
