@@ -4,7 +4,7 @@ ghost use Rattle.runs.specs.Runs.{entry_lists};
 ghost use Rattle.sparse_lists.specs.Sparse.{sparse_lists, sparse_rows, sparse_written};
 ghost use Rattle.c_forms.specs.Forms.{c_gathered};
 
-use c_forms::{CGathered, c_gathered};
+use c_forms::CGathered;
 use sparse_rows::sparse_rows;
 
 // Writes row starts, columns and values of the entries, those of one row and column added up.
@@ -35,5 +35,5 @@ pub extern "C" fn seivalto_sparse_rows(
         kept_columns,
         kept_values,
     );
-    c_gathered(answer)
+    CGathered::from(answer)
 }

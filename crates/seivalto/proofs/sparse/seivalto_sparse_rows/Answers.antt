@@ -3,4 +3,4 @@
 use Rattle.seivalto.proofs.sparse.seivalto_sparse_rows.Goals as goal
 
 pub returns : goal.returns
-returns c = rw (← c.sparse_rows-answer.ensures.value) (record { value = c.c_gathered.ensures; kept_values_after = c.sparse_rows-answer.ensures.kept_values_after })
+returns c = rw (← c.sparse_rows-answer.ensures.value) (record { value = c.from.ensures; kept_values_after = c.sparse_rows-answer.ensures.kept_values_after })
