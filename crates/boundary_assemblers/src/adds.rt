@@ -43,7 +43,8 @@ impl Run {
         );
     }
 
-    // The local matrix of record p, from what is lent and zeros. Checks 9 to 11.
+    // The local matrix of record p, from what is lent and zeros. Checks 9 to 11. (The dims of a pair are known to be few only of a run that 21 has passed: so it is
+    // asked here, and in `LentNumbers` of the form of the local matrix.)
     pub(crate) fn write_local<L: LentNumbers>(
         &self,
         pair: Pair,
@@ -92,8 +93,8 @@ impl Run {
         Ok(())
     }
 
-    // Adds the local matrix of a touching pair, and hands the run back. Checks 21, 20, 22, 23, then 9 to 11. A refused call leaves the run and the matrix as they
-    // were. (It differs from `add_distant` in what it is lent; the work of both, but for two lines, is done by `add`.)
+    // Adds the local matrix of a touching pair, and hands the run back. Checks 21, 20, 22, 23, then 9 to 11. A refused call leaves the run and the matrix
+    // as they were. (It differs from `add_distant` in what it is lent; the work of both, but for two lines, is done by `add`.)
     pub fn add_touching(
         mut self,
         plan: Plan,
@@ -108,8 +109,8 @@ impl Run {
         (self, answer)
     }
 
-    // Adds the local matrix of a distant pair, and hands the run back. Checks 21, 20, 22, 23, then 9 to 11. A refused call leaves the run and the matrix as they
-    // were.
+    // Adds the local matrix of a distant pair, and hands the run back. Checks 21, 20, 22, 23, then 9 to 11. A refused call leaves the run and the matrix as
+    // they were.
     pub fn add_distant(
         mut self,
         plan: Plan,

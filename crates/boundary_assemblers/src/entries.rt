@@ -1,11 +1,11 @@
 // The entries call: the local matrix of a touching pair goes into three lists.
-ghost use Rattle.std.specs.Prelude.{◌≡◌, ◌⊎◌, ◌*◌, ◌<◌, OnErr};
+ghost use Rattle.std.specs.Prelude.{◌≡◌, ◌<◌, OnErr};
 ghost use Rattle.lists.specs.Bool.{◌and◌};
 ghost use Rattle.function.specs.Elements.{dims_right};
 ghost use Rattle.lent_numbers.specs.Forms.{touching_of};
 ghost use Rattle.scatter.specs.Entries.{entry_at};
 ghost use Rattle.scatter.specs.Lent.{SameLists};
-ghost use Rattle.runs.specs.Runs.{pairs, kind_cells, kind_dim, entries_on, entries_to, entries_right, add_entries, entries_written};
+ghost use Rattle.runs.specs.Runs.{pairs, kind_cells, kind_dim, entries_to, entries_right, add_entries, entries_written};
 ghost use Rattle.boundary_assemblers.specs.Forms.{run_of, plan_lent, entries_lent, added_of, dofs_at};
 ghost use Rattle.boundary_assemblers.specs.RunFacts.{Dims, Counts, Standing};
 ghost use Rattle.boundary_assemblers.specs.EntryFacts.{put_at, Fit, written_at};
@@ -36,23 +36,14 @@ fn kind_dim(n: PlanNumbers, elements: Elements, kind: u8) -> usize
 }
 
 impl Run {
-    // The entries of so many records of two kinds.
-    fn entries_of(&self, records: u32, test_kind: u8, trial_kind: u8) -> usize
-        requires dims { Dims self.now.numbers }
-        requires fact { ((test_kind ≡ 3) ⊎ (test_kind ≡ 4)) × ((trial_kind ≡ 3) ⊎ (trial_kind ≡ 4)) }
-        ensures { result ≡ records * entries_on self.now.numbers test_kind trial_kind }
-    {
-        let n = self.numbers;
-        wide(records) * (kind_dim(n, n.test, test_kind) * kind_dim(n, n.trial, trial_kind))
-    }
-
     // The entries of the first q touching records, block after block. (Four lines for four blocks: a loop over them needs an array of kinds and counts, and an
     // invariant of two sums, which is no plainer.)
     fn entries_to(&self, q: u32) -> usize
         requires { Dims self.now.numbers }
         ensures { result ≡ entries_to self.now.numbers q }
     {
-        let k = self.numbers.pairs;
+        let n = self.numbers;
+        let k = n.pairs;
         let a = q.min(k.triangle_triangle);
         let q = q - a;
         let b = q.min(k.triangle_quad);
@@ -60,10 +51,14 @@ impl Run {
         let c = q.min(k.quad_triangle);
         let q = q - c;
         let d = q.min(k.quad_quad);
-        self.entries_of(a, 3, 3)
-            + self.entries_of(b, 3, 4)
-            + self.entries_of(c, 4, 3)
-            + self.entries_of(d, 4, 4)
+        let test_triangle = kind_dim(n, n.test, 3);
+        let test_quad = kind_dim(n, n.test, 4);
+        let trial_triangle = kind_dim(n, n.trial, 3);
+        let trial_quad = kind_dim(n, n.trial, 4);
+        wide(a) * (test_triangle * trial_triangle)
+            + wide(b) * (test_triangle * trial_quad)
+            + wide(c) * (test_quad * trial_triangle)
+            + wide(d) * (test_quad * trial_quad)
     }
 
     // 21: the elements are right, and the entry lists have their length.
@@ -78,7 +73,8 @@ impl Run {
         (lists.rows.len() == count) & (lists.columns.len() == count) & (lists.values.len() == count)
     }
 
-    // 22 of the entries call: the pairs per two kinds put no cells of other kinds at p. (The four blocks one after the other, as in `entries_to`.)
+    // 22 of the entries call: the pairs per two kinds put no cells of other kinds at p. (A search for the block of p. As a loop over
+    // the blocks it would be given four counts with two kinds each, and an invariant of what is left of q.)
     fn kinds_put(&self, test: Cell, trial: Cell) -> bool
         requires { Counts (run_of self.now) × (self.now.position < pairs self.now.numbers) }
         ensures { result ≡ put_at (run_of self.now) test.kind trial.kind }

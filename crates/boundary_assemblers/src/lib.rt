@@ -9,8 +9,8 @@ mod lent;
 use cell_pairs::WorkRecord;
 use plans::PlanNumbers;
 
-// A run: the numbers of the planning that it was begun from, whether it is an entries run, and its position p. (A bool, as the definitions and C's run have it:
-// each check asks whether it is an entries run, and of an enum each would be a comparison.)
+// A run: the numbers of the planning that it was begun from, whether it is an entries run, and its position p. (A bool, as the definitions
+// have it: each check asks whether it is an entries run, and of an enum each would be a comparison.)
 #[derive(Clone, Copy)]
 pub struct Run {
     pub numbers: PlanNumbers,

@@ -1,8 +1,9 @@
-// The forms in which runs, numbers and answers pass through C, what they stand for, and the C forms of what the calls answer. Elements and touching pairs per
-// two kinds pass as they are.
+// The forms in which runs, numbers and answers pass through C, what they stand for, and the C forms of what the calls answer. Elements and touching
+// pairs per two kinds pass as they are.
 #![tactic(auto)]
 
 ghost use Rattle.std.specs.Prelude.{◌≡◌};
+ghost use Rattle.refusals.specs.Numbers.{told};
 ghost use Rattle.plans.specs.Lent.{planned_of};
 ghost use Rattle.boundary_assemblers.specs.Forms as Inner;
 ghost use Rattle.sparse_lists.specs.Answers.{gathered_of};
@@ -15,8 +16,8 @@ use integrands::{Integrand, Term};
 use plans::{KindPairs, PlanNumbers};
 use refusals::Refusal;
 
-// A term: `scaled` is 0 for a bare one, whose factor is not read, and any other number for one that carries the factor. The kind is a number, as a host hands it
-// over.
+// A term: `scaled` is 0 for a bare one, whose factor is not read, and any other number for one that carries the factor. The kind is a number, as a host
+// hands it over.
 #[repr(C)]
 #[derive(Clone, Copy, Default)]
 pub struct CTerm {
@@ -211,6 +212,16 @@ fn no_numbers(test: Elements, trial: Elements, f: CIntegrand) -> CNumbers
     }
 }
 
+// The number of an answer: 0 where the call is accepted.
+fn refusal_of<T>(answer: &Result<T, Refusal>) -> u32
+    ensures { result ≡ told answer.now }
+{
+    match answer {
+        Ok(_) => 0,
+        Err(refusal) => u32::from(*refusal),
+    }
+}
+
 pub fn c_planned(
     test: Elements,
     trial: Elements,
@@ -219,14 +230,11 @@ pub fn c_planned(
 ) -> CPlanned
     ensures { result ≡ c_planned test trial f (planned_of answer) }
 {
-    match answer {
-        Ok(n) => CPlanned {
-            refusal: 0,
-            numbers: c_numbers(test, trial, f, n),
-        },
-        Err(refusal) => CPlanned {
-            refusal: u32::from(refusal),
-            numbers: no_numbers(test, trial, f),
+    CPlanned {
+        refusal: refusal_of(&answer),
+        numbers: match answer {
+            Ok(n) => c_numbers(test, trial, f, n),
+            Err(_) => no_numbers(test, trial, f),
         },
     }
 }
@@ -259,17 +267,12 @@ pub fn c_looked(c: CRun, looked: (Run, Result<WorkRecord, Refusal>)) -> CLooked
     ensures { result ≡ c_looked c (Inner.looked_of looked) }
 {
     let (run, answer) = looked;
-    let next = c.moved_to(run.position);
-    match answer {
-        Ok(e) => CLooked {
-            refusal: 0,
-            run: next,
-            record: CRecord::from(e),
-        },
-        Err(refusal) => CLooked {
-            refusal: u32::from(refusal),
-            run: next,
-            record: CRecord::default(),
+    CLooked {
+        refusal: refusal_of(&answer),
+        run: c.moved_to(run.position),
+        record: match answer {
+            Ok(e) => CRecord::from(e),
+            Err(_) => CRecord::default(),
         },
     }
 }
@@ -279,24 +282,19 @@ pub fn c_added(c: CRun, added: (Run, Result<(), Refusal>)) -> CAdded
     ensures { result ≡ c_added c (Inner.added_of added) }
 {
     let (run, answer) = added;
-    let refusal = match answer {
-        Ok(()) => 0,
-        Err(refusal) => u32::from(refusal),
-    };
     CAdded {
-        refusal,
+        refusal: refusal_of(&answer),
         run: c.moved_to(run.position),
     }
 }
 
-pub fn c_gathered(answer: Result<u64, Refusal>) -> CGathered
-    ensures { result ≡ c_gathered (gathered_of answer) }
-{
-    match answer {
-        Ok(kept) => CGathered { refusal: 0, kept },
-        Err(refusal) => CGathered {
-            refusal: u32::from(refusal),
-            kept: 0,
-        },
+impl From<Result<u64, Refusal>> for CGathered {
+    ghost from_gives = { λ r c. c ≡ c_gathered (gathered_of r) };
+
+    fn from(answer: Result<u64, Refusal>) -> CGathered {
+        CGathered {
+            refusal: refusal_of(&answer),
+            kept: answer.unwrap_or(0),
+        }
     }
 }

@@ -69,16 +69,6 @@ pub record Keyed (ks cs : List ℕ) (count : ℕ) (old keys : List ℕ) (i : ℕ
 pub keyed_none : (ks cs : List ℕ) (count : ℕ) (keys : List ℕ) → Keyed ks cs count keys keys 0
 keyed_none ks cs count keys = record { size = refl; within = omega arith; done = λ j l. absurd (omega arith) }
 
-pub keyed_turn : {ks cs : List ℕ} {count : ℕ} {old keys : List ℕ} {i : ℕ} → Keyed ks cs count old keys i → Keyable ks cs count old → i < length ks → (v : ℕ) → v ≡ kind_key count ks cs i
-    → Keyed ks cs count old (set keys i v) (i + 1)
-keyed_turn {ks} {cs} {count} {old} {keys} {i} k w h v e =
-    record {
-      size = length-set keys i v ∙ k.size;
-      within = omega arith;
-      done = λ j l. ⊎_elim (λ q. ap (λ (n : ℕ). get_or (set keys i v) n 0) q ∙ get_or-set_same keys i v 0 (omega (arith, k.size, w.places)) ∙ e ∙ ap (kind_key count ks cs) (sym q))
-          (λ q. get_or-set_other keys i j v 0 (λ z. q z) ∙ k.done j (omega arith)) (eq_or_ne j i);
-    }
-
 -- the places after the distant pairs and after the touching pairs of each two kinds rise, up to C·C
 pub record Rising (n : ℕ) (e : TouchingEnds) : Type 0 where
   pub first : n ≤ e.triangle_triangle

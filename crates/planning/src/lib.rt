@@ -41,7 +41,8 @@ struct SideCounts {
     colours: u32,
 }
 
-// Writes the three lists of one side. Not inlined, nor what else has lists of its own here, so that those of one step are not on the stack with those of another.
+// Writes the three lists of one side. Not inlined, nor what else has lists of its own here, so that those of one step are not on the stack with those of
+// another.
 #[inline(never)]
 fn write_side(
     mesh: Mesh,
@@ -69,21 +70,24 @@ fn write_plan(mesh: Mesh, assembly: Assembly, lists: &mut PlanLists) -> PlanNumb
     ensures written { lists_lent lists.new ≡ written_lists (planning_with (mesh_lent mesh.entry) assembly) (lists_lent lists.old) }
     ensures same { SameLists lists.old lists.new }
 {
-    let test_dofs = &mut *lists.test_dofs;
-    let trial_dofs = &mut *lists.trial_dofs;
-    let test_colours = &mut *lists.test_colours;
-    let trial_colours = &mut *lists.trial_colours;
-    let test_owners = &mut *lists.test_owners;
-    let trial_owners = &mut *lists.trial_owners;
-    let work = &mut *lists.work;
-    let test = write_side(mesh, assembly.test, test_dofs, test_owners, test_colours);
+    let test = write_side(
+        mesh,
+        assembly.test,
+        lists.test_dofs,
+        lists.test_owners,
+        lists.test_colours,
+    );
     let trial = write_side(
         mesh,
         assembly.trial,
-        trial_dofs,
-        trial_owners,
-        trial_colours,
+        lists.trial_dofs,
+        lists.trial_owners,
+        lists.trial_colours,
     );
+    // Three loans first: the borrow checker reads no list through `lists` while another is lent.
+    let test_colours = &mut *lists.test_colours;
+    let trial_colours = &mut *lists.trial_colours;
+    let work = &mut *lists.work;
     let tests = Coloured {
         colours: test_colours,
         count: test.colours,

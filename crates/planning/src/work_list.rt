@@ -27,7 +27,8 @@ pub(crate) struct PairCounts {
     pub(crate) pairs: KindPairs,
 }
 
-// The key by which a cell is grouped, of so many colours: its colour, for a quad behind those of the triangles. (A kind is a byte, as in the list that C lends.)
+// The key by which a cell is grouped, of so many colours: its colour, for a quad behind those of the triangles. (A kind is a byte, as in the list that C
+// lends.)
 fn key_of(kind: u8, colour: u32, count: u32) -> u32
     requires { (colour < most_cells) × (count ≤ most_cells) }
     ensures { result ≡ colour + cond (eqb kind 4) count 0 }
@@ -80,8 +81,8 @@ fn counts_of(n: usize, ends: TouchingEnds) -> PairCounts
     }
 }
 
-// Writes the work list; hands back how many pairs there are of each sort. The rows of the cells, the key of each and the cells by kind and colour are alive here
-// alone.
+// Writes the work list; hands back how many pairs there are of each sort. The rows of the cells, the key of each and the cells by kind and colour are alive
+// here alone.
 #[inline(never)]
 pub(crate) fn write_work(
     mesh: Mesh,

@@ -1,7 +1,7 @@
 // The sparse rows of a case.
 use crate::cases::Gathering;
 use recorded::{EntryVecs, Words};
-use sparse_rows::sparse_rows;
+use sparse_rows::{RunEntries, SparseLists, sparse_rows};
 use std::alloc::Global;
 use std::io;
 
@@ -18,16 +18,17 @@ impl Gathering {
         let mut starts = words.list(alloc, self.starts)?;
         let mut columns = words.list(alloc, self.columns)?;
         let mut values = words.list(alloc, self.values)?;
-        let answer = sparse_rows(
-            &entries.rows,
-            &entries.columns,
-            &entries.values,
-            row_count,
-            column_count,
-            &mut starts,
-            &mut columns,
-            &mut values,
-        );
+        let lent = RunEntries {
+            rows: &entries.rows,
+            columns: &entries.columns,
+            values: &entries.values,
+        };
+        let mut lists = SparseLists {
+            starts: &mut starts,
+            columns: &mut columns,
+            values: &mut values,
+        };
+        let answer = sparse_rows(lent, row_count, column_count, &mut lists);
         Ok(
             (answer.map_err(|refusal| refusal.number()) == self.answer)
                 & words.is_next(&starts)?

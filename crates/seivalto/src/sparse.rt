@@ -4,8 +4,8 @@ ghost use Rattle.runs.specs.Runs.{entry_lists};
 ghost use Rattle.sparse_lists.specs.Sparse.{sparse_lists, sparse_rows, sparse_written};
 ghost use Rattle.c_forms.specs.Forms.{c_gathered};
 
-use c_forms::{CGathered, c_gathered};
-use sparse_rows::sparse_rows;
+use c_forms::CGathered;
+use sparse_rows::{RunEntries, SparseLists, sparse_rows};
 
 // Writes row starts, columns and values of the entries, those of one row and column added up.
 #[unsafe(no_mangle)]
@@ -25,15 +25,15 @@ pub extern "C" fn seivalto_sparse_rows(
         ≡ sparse_written (entry_lists rows.now columns.now values.now) row_count column_count
         (sparse_lists row_starts.old kept_columns.old kept_values.old) }
 {
-    let answer = sparse_rows(
+    let entries = RunEntries {
         rows,
         columns,
         values,
-        row_count,
-        column_count,
-        row_starts,
-        kept_columns,
-        kept_values,
-    );
-    c_gathered(answer)
+    };
+    let mut lists = SparseLists {
+        starts: row_starts,
+        columns: kept_columns,
+        values: kept_values,
+    };
+    CGathered::from(sparse_rows(entries, row_count, column_count, &mut lists))
 }

@@ -2,3 +2,4 @@
 pub mod RowMajor
 pub mod Written
 pub mod Call
+pub mod Lent
