@@ -31,13 +31,13 @@ const CASES: usize = 254;
 fn main(rt: HostRuntime) -> io::Result<()> {
     let alloc = rt.alloc();
     let text = fs::read_to_string(&rt, "cases")?;
-    let mut words = Words::new(text.as_str());
+    let mut words = Words::new(text.as_str(), alloc);
     let mut numbers = 1..=CASES;
     // A list for its length: that a count by `+= 1` fits would need an invariant over both loops, and `len` needs none.
     let mut differing = Vec::new(alloc);
     for (name, n) in GROUPS {
         for number in numbers.by_ref().take(n) {
-            if !Case::read(&mut words, alloc)?.agrees() {
+            if !Case::read(&mut words)?.agrees() {
                 println!(rt; "differs: case {number}")?;
                 differing.push(number)?;
             }

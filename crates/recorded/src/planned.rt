@@ -47,7 +47,6 @@ impl MeshVecs {
     /// A mesh of these kinds, whose other two lists are the next ones, each of n numbers.
     pub fn read(
         words: &mut Words<'_>,
-        alloc: Global,
         sizes: Sizes,
         kinds: Vec<u8>,
         n: usize,
@@ -55,8 +54,8 @@ impl MeshVecs {
         Ok(MeshVecs {
             sizes,
             kinds,
-            cell_vertices: words.list(alloc, n)?,
-            cell_edges: words.list(alloc, n)?,
+            cell_vertices: words.list(n)?,
+            cell_edges: words.list(n)?,
         })
     }
 

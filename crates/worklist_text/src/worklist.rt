@@ -28,7 +28,7 @@ const PAIRS: usize = CELLS * CELLS;
 // The most bytes of the text: a line of at most 12 for each pair.
 pub const MOST_TEXT: usize = 12 * PAIRS;
 
-// The kind of a triangle.
+// The kind of a triangle. (`oracle_runs` has the same line: no crate below both has a constant for it.)
 const TRIANGLE: u8 = 3;
 
 // The length of a DOF list. A dim above the most is refused before the lists' lengths are read.
