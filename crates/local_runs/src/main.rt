@@ -24,7 +24,7 @@ const GROUPS: [(&str, usize); 12] = [
     ("infinity minus infinity", 12),
 ];
 
-// All of them.
+// All of them. (By hand: tried as the `sum` of the groups, which the proof has to show to fit; the check does not find that alone.)
 const CASES: usize = 254;
 
 // A case is named by its number, which is its line in the file, from 1.
