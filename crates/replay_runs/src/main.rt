@@ -1,7 +1,8 @@
 // Plays recorded lists of calls: each case of data/dense and of data/entries is a planning with its calls, encoded for `replay`, and all that they must answer
 // and leave. Plays it by one call of `replay`, and compares the position, every answer and every number of the matrix and of the entry lists, floats by their
-// bits. Where planning is accepted in data/entries it then gathers the entry lists, as the calls left them, into sparse rows, and compares the answer and every number of
-// their three lists. tools/record_calls.c made the files: a C implementation written from the paper and, for the sparse rows, from the request. Its head says how, and what a line holds.
+// bits. Where planning is accepted in data/entries it then gathers the entry lists, as the calls left them, into sparse rows, and compares the answer and every
+// number of their three lists. tools/record_calls.c made the files: a C implementation written from the paper and, for the sparse rows, from the request. Its
+// head says how, and what a line holds.
 #![tactic(auto)]
 
 mod cases;
