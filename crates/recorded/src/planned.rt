@@ -46,12 +46,7 @@ pub struct MeshVecs {
 
 impl MeshVecs {
     /// A mesh of these kinds, whose other two lists are the next ones, each of n numbers.
-    pub fn read(
-        words: &mut Words<'_>,
-        sizes: Sizes,
-        kinds: Vec<u8>,
-        n: usize,
-    ) -> io::Result<Self> {
+    pub fn read(words: &mut Words<'_>, sizes: Sizes, kinds: Vec<u8>, n: usize) -> io::Result<Self> {
         Ok(MeshVecs {
             sizes,
             kinds,
@@ -70,7 +65,7 @@ impl MeshVecs {
     }
 }
 
-/// The lists that planning writes. (Flat, as `PlanLists`, to which they are lent: a struct of a side with its `new` is sixteen lines, and takes eight off here.)
+/// The lists that planning writes. (Flat, as `PlanLists`, to which they are lent: a struct of a side with its `new` is sixteen lines, and takes off eight.)
 #[derive(Drop)]
 pub struct PlanVecs {
     pub test_dofs: Vec<u32>,

@@ -40,7 +40,7 @@ fn read_some<R: Read>(file: &mut Source<R>, piece: &mut [u8], n: usize) -> usize
 fn skip<R: Read>(file: &mut Source<R>, n: usize) -> usize
     ensures { result ≤ n }
 {
-    // Of fixed size, as no allocator is at hand; a piece is read in part only where few bytes are left to read.
+    // Of fixed size, as no allocator is at hand; a piece is read in part only where fewer bytes are left.
     let mut piece = [0; SKIPPED];
     let mut count = 0;
     while count < n {
