@@ -1,8 +1,9 @@
-// Times planning, look, and a look with the add of a distant pair, through the C interface, on a torus, which is a closed surface, of triangles, of quads and of
-// both; and planning and look on a fan of triangles, all at one vertex, which has no distant pair. `bench/run-calls` builds and runs it; it compares the libraries
-// of two commits, where what a host lends is the same.
+// Times planning, look, and a look with the add of a distant pair, through the C interface, on a torus, which is a closed surface, of triangles, of quads and
+// of both; and planning and look on a fan of triangles, all at one vertex, which has no distant pair. `bench/run-calls` builds and runs it; it compares the
+// libraries of two commits, where what a host lends is the same.
 //
-// Each line: cells, kinds or fan, element, milliseconds of a planning, nanoseconds of a look, and of a look and an add together. Kind 0, 6 points a side, batch 128.
+// Each line: cells, kinds or fan, element, milliseconds of a planning, nanoseconds of a look, and of a look and an add together. Kind 0,
+// 6 points a side, batch 128.
 // Each figure is the least of many short rounds, so that work beside it harms less; beside a loaded machine compare several processes.
 #define _POSIX_C_SOURCE 199309L
 #include <stdint.h>
@@ -47,8 +48,8 @@ static void cell(struct mesh *m, uint8_t kind, const uint32_t *vertices, const u
     m->places += kind;
 }
 
-// A torus of columns by rows squares. Of `step` rows the first `quads` have quads, in the others each square is two triangles. A square has three edges of its own:
-// to the right, up, and across.
+// A torus of columns by rows squares. Of `step` rows the first `quads` have quads, in the others each square is two triangles. A square has three edges of its
+// own: to the right, up, and across.
 static struct mesh torus(uint32_t columns, uint32_t rows, uint32_t quads, uint32_t step) {
     uint32_t squares = columns * rows;
     struct mesh m = {0, squares, 3 * squares, 0, room(2 * squares), room(24 * (size_t)squares), room(24 * (size_t)squares)};
@@ -66,8 +67,8 @@ static struct mesh torus(uint32_t columns, uint32_t rows, uint32_t quads, uint32
     return m;
 }
 
-// A closed fan of n triangles at vertex 0, the others being 1 to n. Triangle i has edge i to its second vertex, the next triangle's to its third, and edge n + i
-// between these.
+// A closed fan of n triangles at vertex 0, the others being 1 to n. Triangle i has edge i to its second vertex, the next triangle's to its third, and edge
+// n + i between these.
 static struct mesh fan(uint32_t n) {
     struct mesh m = {0, n + 1, 2 * n, 0, room(n), room(12 * (size_t)n), room(12 * (size_t)n)};
     for (uint32_t i = 0; i < n; i++) {

@@ -1,6 +1,6 @@
 // Times adds of touching and of distant pairs, through the C interface, against two C loops of the sums of their local matrices: one entry at a time (plain),
-// and points outermost. The kinds are fixed at compile time in both loops, and neither checks anything. The time of ours is that of a whole add: checks 20 to 23
-// and 9 to 11, the local matrix, and its sums into the matrix. `bench/run-local-matrices` builds and runs it.
+// and points outermost. The kinds are fixed at compile time in both loops, and neither checks anything. The time of ours is that of a whole add: checks 20 to
+// 23 and 9 to 11, the local matrix, and its sums into the matrix. `bench/run-local-matrices` builds and runs it.
 //
 // Each line: pair, terms, dim, points a side, nanoseconds of ours, of plain, of outermost, then ours/plain and ours/outermost. Thread time, best of some
 // rounds. A result that differs from the plain loop's in a bit ends the run.

@@ -8,7 +8,8 @@
 //     ./record_calls entries > crates/replay_runs/data/entries
 //
 // `dense`: dense runs with looks and both adds. `entries`: entries runs, and dense runs that are asked an entries call, each that planning
-// accepts with the sparse rows of its entry lists. Both draw from a generator of their own with a fixed seed, so each run writes the same bytes. What occurs goes to standard error.
+// accepts with the sparse rows of its entry lists. Both draw from a generator of their own with a fixed seed, so each run writes the same bytes. What occurs
+// goes to standard error.
 //
 // A file is words of 16 hexadecimal digits, a blank or a line end after each: a line with the number of cases, then a line a case.
 //     word 0      C, V, E and batch, four digits each
@@ -16,14 +17,15 @@
 //                 the second; 0 for a dense run or 1 for an entries run; planning's refusal, two digits; two zeros
 //     words 2, 3  the factors of the two terms (0 for a bare one)
 //     word 4      digits: test a, b, c and trial a, b, c of quads; ten zeros
-//     twenty numbers, four in a word: lengths of cell vertices (and of cell edges), test DOFs, trial DOFs, colours (each), test owners, trial owners, work list,
-//                 calls, pool, matrix, entry lists (each), answers; the position after the last call; lengths of row starts, columns and values of the sparse
-//                 rows; what gathering them answers: 0 0 where it is not asked, 1 and how many values are kept, or 2 and the refusal; the length of the kind
-//                 list; a zero
+//     twenty numbers, four in a word: lengths of cell vertices (and of cell edges), test DOFs, trial DOFs, colours (each), test owners, trial owners, work
+//                 list, calls, pool, matrix, entry lists (each), answers; the position after the last call; lengths of row starts, columns and values of the
+//                 sparse rows; what gathering them answers: 0 0 where it is not asked, 1 and how many values are kept, or 2 and the refusal; the length of the
+//                 kind list; a zero
 //     then        kinds, cell vertices, cell edges and calls, as numbers; pool and matrix, as floats;
 //                 after the calls answers, as numbers; matrix, as floats; entry rows and columns, as numbers; entry values, as floats;
 //                 and of the sparse rows, before they are written and after, row starts, as words; columns, as numbers; values, as floats
-// Numbers of a list stand four in a word, and the last word of a list is filled up with zeros. A float is written by its bits, and each NaN as 7ff8000000000000.
+// Numbers of a list stand four in a word, and the last word of a list is filled up with zeros. A float is written by its bits, and each
+// NaN as 7ff8000000000000.
 //
 // A call is eleven numbers: kind (0 look, 1 distant, 2 touching, 3 entries), two point counts (of kinds 2 and 3 the first alone is read), and eight places that
 // part the pool into seven lists (kinds 2 and 3 have six); a list whose places are not there is empty. Lists: weights (distant: of the test points, then of the
@@ -157,8 +159,8 @@ static int edge_of(int n, int p, int q) {
     return -1;
 }
 
-// The number of two cells in the table: the triangle formula with the trial kind for 3, after the start of the block of the two kinds. Of all vertices of cells of
-// one kind, in whatever order, the block's last; of other lists -1. Where either of these is not right planning refuses.
+// The number of two cells in the table: the triangle formula with the trial kind for 3, after the start of the block of the two kinds. Of all vertices of cells
+// of one kind, in whatever order, the block's last; of other lists -1. Where either of these is not right planning refuses.
 static int pattern(int i, int j) {
     int n = kind[i], k = kind[j], start = n == 3 ? (k == 3 ? 0 : 28) : (k == 3 ? 64 : 100), test[4], trial[4], shared = 0;
     for (int q = 0; q < k; q++)
@@ -596,8 +598,8 @@ static const int paper[] = { 0, 1, 2, 1, 3, 2, 4, 5, 6 };
 static const int octahedron[] = { 0, 2, 4, 2, 1, 4, 1, 3, 4, 3, 0, 4, 2, 0, 5, 1, 2, 5, 3, 1, 5, 0, 3, 5 };
 static const int by_edge[] = { 0, 1, 2, 2, 1, 3 }, by_vertex[] = { 0, 1, 2, 3, 2, 4 }, apart[] = { 0, 1, 2, 3, 4, 5 }, twice[] = { 0, 1, 2, 0, 1, 2 },
                  turned[] = { 0, 1, 2, 1, 2, 0 };
-// a triangle and a quad that share an edge; these with a triangle and a quad that share nothing; a quad, two triangles and a quad in a row; quads alone, two with
-// an edge and one apart; a quad twice; quads that meet only at a diagonal; a triangle that shares three vertices with a quad
+// a triangle and a quad that share an edge; these with a triangle and a quad that share nothing; a quad, two triangles and a quad in a row; quads alone, two
+// with an edge and one apart; a quad twice; quads that meet only at a diagonal; a triangle that shares three vertices with a quad
 static const int pair_kinds[] = { 3, 4 }, pair[] = { 0, 1, 2, 1, 3, 2, 4 };
 static const int pairs_kinds[] = { 3, 4, 3, 4 }, pairs[] = { 0, 1, 2, 1, 3, 2, 4, 5, 6, 7, 8, 9, 10, 11 };
 static const int row_kinds[] = { 4, 3, 3, 4 }, row[] = { 0, 1, 4, 5, 1, 2, 5, 6, 5, 2, 7, 3, 6, 2 };

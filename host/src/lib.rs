@@ -1,6 +1,6 @@
-//! The boundary assembler, for Rust: a safe crate over the static library of `crates/seivalto`. Each function is one call of the library, which makes every test
-//! itself. `include/seivalto.h` says what each argument means, which lengths are asked, and what the lent numbers are: gradient, jacobian, orientation, rules
-//! and how the pattern turns them.
+//! The boundary assembler, for Rust: a safe crate over the static library of `crates/seivalto`. Each function is one call of the library, which makes every
+//! test itself. `include/seivalto.h` says what each argument means, which lengths are asked, and what the lent numbers are: gradient, jacobian, orientation,
+//! rules and how the pattern turns them.
 //!
 //! [`plan`], [`Numbers::begin`], then [`Run::look`] and the add of the record's kind, until look answers [`Refusal::NoRecordLeft`]. [`sparse_rows`] gathers the
 //! lists of a finished entries run. Cells are triangles and quads; for triangles alone the kind list is [`triangles`], and an [`Element`] does for a side.
@@ -110,8 +110,8 @@ impl Integrand {
     }
 }
 
-/// The mesh: its sizes, the kind of each cell ([`TRIANGLE`] or [`QUAD`]; [`triangles`] has the list of triangles alone), and for each cell, one after the other,
-/// as many vertex numbers and as many edge numbers as its kind says. Local edges of a triangle join local vertices (1,2), (0,2), (0,1), those of a quad
+/// The mesh: its sizes, the kind of each cell ([`TRIANGLE`] or [`QUAD`]; [`triangles`] has the list of triangles alone), and for each cell, one after the
+/// other, as many vertex numbers and as many edge numbers as its kind says. Local edges of a triangle join local vertices (1,2), (0,2), (0,1), those of a quad
 /// (0,1), (0,2), (1,3), (2,3).
 #[derive(Clone, Copy, Debug)]
 pub struct Mesh<'a> {
@@ -232,8 +232,8 @@ pub struct Entries<'a> {
     pub values: &'a [f64],
 }
 
-/// The lists that [`sparse_rows`] writes. `row_starts` takes one number more than there are rows; the others take as many as values are kept, and lists as long as
-/// the entries always do. What is past the written numbers stays as it was.
+/// The lists that [`sparse_rows`] writes. `row_starts` takes one number more than there are rows; the others take as many as values are kept, and lists as long
+/// as the entries always do. What is past the written numbers stays as it was.
 #[derive(Debug)]
 pub struct SparseLists<'a> {
     pub row_starts: &'a mut [u64],

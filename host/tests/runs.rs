@@ -163,8 +163,8 @@ fn whole_dense_run(m: &Planned) {
     assert_eq!(bits(&matrix), bits(&expected));
 }
 
-/// M has five touching pairs of 3 times 4 entries. The other mesh has 3 times 3 entries for each of its two pairs of triangles, 3 times 5 for the triangle with the quad,
-/// 4 times 3 for the quad with the triangle, and 4 times 5 for each of its two pairs of quads.
+/// M has five touching pairs of 3 times 4 entries. The other mesh has 3 times 3 entries for each of its two pairs of triangles, 3 times 5 for the triangle with
+/// the quad, 4 times 3 for the quad with the triangle, and 4 times 5 for each of its two pairs of quads.
 #[test]
 fn whole_entries_runs() {
     whole_entries_run(&mesh_m_planned(), &[0, 12, 24, 36, 48, 60]);

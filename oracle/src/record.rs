@@ -13,9 +13,9 @@
 //!                the second; test points, trial points and points of a touching pair; what the Rust answers (0 an answer, 7 a panic for want of a
 //!                pattern); 0
 //!     factors    two floats, 0 for a term that is bare or not there
-//!     lengths    24 numbers, the lengths of lists, so that no reader multiplies: vertices, test DOFs, trial DOFs, colours, test owners, trial owners (as planning
-//!                wants them), work, lent (8·C·C); test owners, trial owners (as planning writes them), matrix, entries (these four 0 where there is no
-//!                answer); of a distant add test weights, trial weights, test table, trial table, kernel, test geometry, trial geometry; of a touching add
+//!     lengths    24 numbers, the lengths of lists, so that no reader multiplies: vertices, test DOFs, trial DOFs, colours, test owners, trial owners (as
+//!                planning wants them), work, lent (8·C·C); test owners, trial owners (as planning writes them), matrix, entries (these four 0 where there is
+//!                no answer); of a distant add test weights, trial weights, test table, trial table, kernel, test geometry, trial geometry; of a touching add
 //!                weights, test table, trial table, kernel, geometry
 //!     vertices   3·C numbers
 //!     edges      3·C numbers

@@ -24,7 +24,8 @@ impl<R: Read> Source<R> {
         }
     }
 
-    // One read into the piece; 0 at the end of the input, and where a read has failed.
+    // One read into the piece; 0 at the end of the input, and where a read has failed. (A number, and no Option: `read` of std says the end by 0 too, and for
+    // who reads on a failed read is the end.)
     fn read_once(&mut self, piece: &mut [u8]) -> usize
         ensures within { result ≤ length piece.new }
         ensures bytes { Consumes (bytes_left R.remaining self.old) (bytes_left R.remaining self.new) (take result piece.new) }

@@ -15,7 +15,7 @@ pub(crate) fn two_at(bytes: &[u8], k: usize) -> u16
     u16::from_be_bytes(bytes[k..k + 2].try_into().unwrap())
 }
 
-// The number of 4 bytes from byte k on.
+// The number of 4 bytes from byte k on. (`two_at` but for the length, which stands in the type that `from_be_bytes` takes: one function for both is a trait.)
 fn four_at(bytes: &[u8], k: usize) -> u32
     requires { k + 3 < length bytes.now }
     ensures { result ≡ four bytes.now k }
@@ -36,7 +36,8 @@ pub(crate) fn head_right(bytes: &[u8]) -> bool
     (version == 1) & (rest == 15 + 12 * cells)
 }
 
-// What the first 7 bytes say: C, or that they are refused whatever follows. `head_wrong`, `head_size` and `head_longer` of proofs/HeadFacts have what they decide.
+// What the first 7 bytes say: C, or that they are refused whatever follows. `head_wrong`, `head_size` and `head_longer` of proofs/HeadFacts
+// have what they decide.
 pub fn read_head(bytes: &[u8]) -> Result<u32, JobRefusal>
     ensures { head_told result ≡ read_head bytes.now }
 {

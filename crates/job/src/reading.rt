@@ -42,7 +42,7 @@ fn numbers_of(bytes: &[u8]) -> JobNumbers
     }
 }
 
-// Numbers of 2 bytes from byte `at` on, as many as the list is long.
+// Numbers of 2 bytes from byte `at` on, as many as the list is long. (With `zip` and `chunks_exact` nothing is known of the list after the loop.)
 fn read_numbers(bytes: &[u8], at: usize, list: &mut [u32])
     requires { at + 2 * length list.old ≤ length bytes.now }
     ensures { list.new ≡ twos bytes.now at (length list.old) }

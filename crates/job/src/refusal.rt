@@ -22,7 +22,7 @@ impl JobRefusal {
     }
 }
 
-// (`Refusal` has the same one line: this crate stands on none of its reasons, and one impl for both types takes a trait, which is longer.)
+// For a caller's `{}` and `?`: nothing here calls it. (`Refusal` has the same line; a trait for both is longer than the two.)
 impl fmt::Display for JobRefusal {
     fn fmt<W: fmt::Write>(&self, f: &mut fmt::Formatter<W>) -> fmt::Result {
         write!(f, "refused {}", self.number())

@@ -9,7 +9,6 @@ use integrands::integrand_right;
 use lent_numbers::{DistantNumbers, LocalForm, Side, TouchingNumbers};
 use recorded::{Forms, Words, bits_of};
 use refusals::Refusal;
-use std::alloc::Global;
 use std::io;
 
 /// The points of a touching pair, or of the two cells of a distant one.
@@ -35,7 +34,7 @@ pub struct Case {
 }
 
 impl Case {
-    pub fn read(words: &mut Words<'_>, alloc: Global) -> io::Result<Self> {
+    pub fn read(words: &mut Words<'_>) -> io::Result<Self> {
         words.finish_word();
         let touching = words.digit()? == 0;
         let forms = Forms::read(words)?;
@@ -67,14 +66,14 @@ impl Case {
                 test_dim,
                 trial_dim,
             },
-            test_weights: words.list(alloc, test_weights)?,
-            trial_weights: words.list(alloc, trial_weights)?,
-            test_table: words.list(alloc, test_table)?,
-            trial_table: words.list(alloc, trial_table)?,
-            kernel: words.list(alloc, kernel)?,
-            test_geometry: words.list(alloc, test_geometry)?,
-            trial_geometry: words.list(alloc, trial_geometry)?,
-            entries: words.list(alloc, entries)?,
+            test_weights: words.list(test_weights)?,
+            trial_weights: words.list(trial_weights)?,
+            test_table: words.list(test_table)?,
+            trial_table: words.list(trial_table)?,
+            kernel: words.list(kernel)?,
+            test_geometry: words.list(test_geometry)?,
+            trial_geometry: words.list(trial_geometry)?,
+            entries: words.list(entries)?,
         })
     }
 

@@ -2,7 +2,6 @@
 use lent_numbers::{DistantNumbers, Side, TouchingNumbers};
 use planning::Assembly;
 use recorded::{Head, MeshVecs, PlanLengths, Recorded, Words};
-use std::alloc::Global;
 use std::io;
 
 /// The geometry of points and the pool of other numbers, of which lists are lent.
@@ -12,11 +11,9 @@ pub struct Numbers<'a> {
     pub pool: &'a [f64],
 }
 
-/// How many points a cell has, and how long the lists are that a distant pair is lent.
-#[derive(Clone, Copy)]
-struct Distant {
-    test_points: usize,
-    trial_points: usize,
+/// A number for each list that a distant pair is lent: how long it is, or where it begins.
+#[derive(Clone, Copy, PartialEq)]
+struct PerList {
     test_weights: usize,
     trial_weights: usize,
     test_table: usize,
@@ -24,6 +21,28 @@ struct Distant {
     kernel: usize,
     test_geometry: usize,
     trial_geometry: usize,
+}
+
+impl PerList {
+    fn read(words: &mut Words<'_>) -> io::Result<Self> {
+        Ok(PerList {
+            test_weights: usize::read(words)?,
+            trial_weights: usize::read(words)?,
+            test_table: usize::read(words)?,
+            trial_table: usize::read(words)?,
+            kernel: usize::read(words)?,
+            test_geometry: usize::read(words)?,
+            trial_geometry: usize::read(words)?,
+        })
+    }
+}
+
+/// How many points a cell has, and how long the lists are that a distant pair is lent.
+#[derive(Clone, Copy)]
+struct Distant {
+    test_points: usize,
+    trial_points: usize,
+    lengths: PerList,
 }
 
 /// The same of a touching pair.
@@ -40,13 +59,7 @@ struct Touching {
 /// Where the lists that a pair is lent begin: geometry in the geometry, all else in the pool. A touching pair's weights are its test weights.
 #[derive(Clone, Copy, PartialEq)]
 pub struct Places {
-    test_weights: usize,
-    trial_weights: usize,
-    test_table: usize,
-    trial_table: usize,
-    kernel: usize,
-    test_geometry: usize,
-    trial_geometry: usize,
+    begin: PerList,
 }
 
 impl Places {
@@ -56,15 +69,8 @@ impl Places {
 
 impl Recorded for Places {
     fn read(words: &mut Words<'_>) -> io::Result<Self> {
-        // One field after the other, as the lengths in `recorded`, of which no field is the same.
         let places = Places {
-            test_weights: usize::read(words)?,
-            trial_weights: usize::read(words)?,
-            test_table: usize::read(words)?,
-            trial_table: usize::read(words)?,
-            kernel: usize::read(words)?,
-            test_geometry: usize::read(words)?,
-            trial_geometry: usize::read(words)?,
+            begin: PerList::read(words)?,
         };
         words.number()?;
         Ok(places)
@@ -80,32 +86,35 @@ fn part(list: &[f64], place: usize, n: usize) -> &[f64] {
 
 impl<'a> Numbers<'a> {
     fn touching(self, lengths: Touching, places: Places) -> TouchingNumbers<'a> {
+        let begin = places.begin;
         TouchingNumbers {
             points: lengths.points,
-            weights: part(self.pool, places.test_weights, lengths.weights),
-            test_table: part(self.pool, places.test_table, lengths.test_table),
-            trial_table: part(self.pool, places.trial_table, lengths.trial_table),
-            kernel: part(self.pool, places.kernel, lengths.kernel),
-            test_geometry: part(self.geometry, places.test_geometry, lengths.geometry),
-            trial_geometry: part(self.geometry, places.trial_geometry, lengths.geometry),
+            weights: part(self.pool, begin.test_weights, lengths.weights),
+            test_table: part(self.pool, begin.test_table, lengths.test_table),
+            trial_table: part(self.pool, begin.trial_table, lengths.trial_table),
+            kernel: part(self.pool, begin.kernel, lengths.kernel),
+            test_geometry: part(self.geometry, begin.test_geometry, lengths.geometry),
+            trial_geometry: part(self.geometry, begin.trial_geometry, lengths.geometry),
         }
     }
 
-    fn distant(self, lengths: Distant, places: Places) -> DistantNumbers<'a> {
+    fn distant(self, distant: Distant, places: Places) -> DistantNumbers<'a> {
+        let begin = places.begin;
+        let lengths = distant.lengths;
         DistantNumbers {
             test: Side {
-                points: lengths.test_points,
-                weights: part(self.pool, places.test_weights, lengths.test_weights),
-                table: part(self.pool, places.test_table, lengths.test_table),
-                geometry: part(self.geometry, places.test_geometry, lengths.test_geometry),
+                points: distant.test_points,
+                weights: part(self.pool, begin.test_weights, lengths.test_weights),
+                table: part(self.pool, begin.test_table, lengths.test_table),
+                geometry: part(self.geometry, begin.test_geometry, lengths.test_geometry),
             },
             trial: Side {
-                points: lengths.trial_points,
-                weights: part(self.pool, places.trial_weights, lengths.trial_weights),
-                table: part(self.pool, places.trial_table, lengths.trial_table),
-                geometry: part(self.geometry, places.trial_geometry, lengths.trial_geometry),
+                points: distant.trial_points,
+                weights: part(self.pool, begin.trial_weights, lengths.trial_weights),
+                table: part(self.pool, begin.trial_table, lengths.trial_table),
+                geometry: part(self.geometry, begin.trial_geometry, lengths.trial_geometry),
             },
-            kernel: part(self.pool, places.kernel, lengths.kernel),
+            kernel: part(self.pool, begin.kernel, lengths.kernel),
         }
     }
 }
@@ -114,6 +123,7 @@ impl<'a> Numbers<'a> {
 #[derive(Drop)]
 pub struct Case {
     pub assembly: Assembly,
+    // A number, as the file has it: one that no check has is no `Refusal`, and differs all the same.
     pub refusal: Option<u32>,
     pub lengths: PlanLengths,
     pub pairs: u32,
@@ -127,7 +137,7 @@ pub struct Case {
 }
 
 impl Case {
-    pub fn read(words: &mut Words<'_>, alloc: Global) -> io::Result<Self> {
+    pub fn read(words: &mut Words<'_>) -> io::Result<Self> {
         let head = Head::read(words)?;
         let test_points = usize::from(words.digit()?);
         let trial_points = usize::from(words.digit()?);
@@ -146,13 +156,7 @@ impl Case {
         let distant = Distant {
             test_points,
             trial_points,
-            test_weights: usize::read(words)?,
-            trial_weights: usize::read(words)?,
-            test_table: usize::read(words)?,
-            trial_table: usize::read(words)?,
-            kernel: usize::read(words)?,
-            test_geometry: usize::read(words)?,
-            trial_geometry: usize::read(words)?,
+            lengths: PerList::read(words)?,
         };
         let touching = Touching {
             points,
@@ -162,7 +166,7 @@ impl Case {
             kernel: usize::read(words)?,
             geometry: usize::read(words)?,
         };
-        let kinds = vec![in alloc; TRIANGLE; head.sizes.cells as usize]?;
+        let kinds = vec![in words.alloc; TRIANGLE; head.sizes.cells as usize]?;
         Ok(Case {
             assembly,
             refusal,
@@ -174,7 +178,7 @@ impl Case {
             entries,
             distant,
             touching,
-            mesh: MeshVecs::read(words, alloc, head.sizes, kinds, lengths.cell_vertices)?,
+            mesh: MeshVecs::read(words, head.sizes, kinds, lengths.cell_vertices)?,
         })
     }
 
@@ -187,5 +191,5 @@ impl Case {
     }
 }
 
-// The kind of a triangle in a kind list.
+// The kind of a triangle in a kind list. (`worklist_text` has the same line: no crate below both has a constant for it.)
 const TRIANGLE: u8 = 3;

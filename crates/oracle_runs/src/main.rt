@@ -11,7 +11,6 @@ use crate::recorded_runs::Planning;
 use planning::plan;
 use plans::PlanNumbers;
 use recorded::{PlanVecs, Words};
-use std::alloc::Global;
 use std::{fs, io};
 
 // How many floats there are of geometry, and in the pool.
@@ -27,7 +26,6 @@ fn front(list: &[u32], n: usize) -> &[u32] {
 // Whether an accepted planning and both its runs give what is recorded.
 fn planning_agrees(
     words: &mut Words<'_>,
-    alloc: Global,
     case: &Case,
     counts: PlanNumbers,
     lists: &PlanVecs,
@@ -41,7 +39,7 @@ fn planning_agrees(
         & words.is_next(front(&lists.test_owners, case.test_owners))?
         & words.is_next(front(&lists.trial_owners, case.trial_owners))?
         & words.is_next(&lists.work)?;
-    let places = words.list(alloc, case.pairs as usize)?;
+    let places = words.list(case.pairs as usize)?;
     let planning = Planning {
         case,
         counts,
@@ -50,30 +48,29 @@ fn planning_agrees(
         numbers,
     };
     Ok(
-        same & planning.entries_agree(words, alloc)?
-            & planning.matrix_agrees(words, alloc)?
+        same & planning.entries_agree(words)?
+            & planning.matrix_agrees(words)?
             & case.refusal.is_none(),
     )
 }
 
 // Reads a case whole and replays it.
-fn case_agrees(words: &mut Words<'_>, alloc: Global, numbers: Numbers<'_>) -> io::Result<bool> {
-    let case = Case::read(words, alloc)?;
-    let mut lists = PlanVecs::new(alloc, case.lengths)?;
+fn case_agrees(words: &mut Words<'_>, numbers: Numbers<'_>) -> io::Result<bool> {
+    let case = Case::read(words)?;
+    let mut lists = PlanVecs::new(words.alloc, case.lengths)?;
     match plan(case.mesh.mesh(), case.assembly, &mut lists.lent()) {
-        Ok(counts) => planning_agrees(words, alloc, &case, counts, &lists, numbers),
+        Ok(counts) => planning_agrees(words, &case, counts, &lists, numbers),
         Err(refusal) => Ok(Some(refusal.number()) == case.refusal),
     }
 }
 
 // The file: how many cases, geometry, pool, then the cases. Each that differs is named by its number, from 1.
 fn main(rt: HostRuntime) -> io::Result<()> {
-    let alloc = rt.alloc();
     let text = fs::read_to_string(&rt, "cases")?;
-    let mut words = Words::new(text.as_str());
+    let mut words = Words::new(text.as_str(), rt.alloc());
     let n = words.word()?;
-    let geometry = words.list(alloc, GEOMETRY)?;
-    let pool = words.list(alloc, POOL)?;
+    let geometry = words.list(GEOMETRY)?;
+    let pool = words.list(POOL)?;
     let numbers = Numbers {
         geometry: &geometry,
         pool: &pool,
@@ -81,7 +78,7 @@ fn main(rt: HostRuntime) -> io::Result<()> {
     let mut differ = 0u64;
     // Counted: each case is read from the words as it comes, and stands in no list.
     for number in 1..=n {
-        if !case_agrees(&mut words, alloc, numbers)? {
+        if !case_agrees(&mut words, numbers)? {
             println!(rt; "differs: case {number}")?;
             differ += 1;
         }

@@ -6,7 +6,6 @@ use plans::{Plan, PlanNumbers};
 use recorded::{EntryVecs, Words};
 use refusals::Refusal;
 use scatter::EntryLists;
-use std::alloc::Global;
 use std::io;
 
 /// A planning that was accepted, and what its pairs are lent.
@@ -51,16 +50,16 @@ impl Planning<'_> {
     }
 
     /// Whether an entries run writes the recorded entries.
-    pub fn entries_agree(self, words: &mut Words<'_>, alloc: Global) -> io::Result<bool> {
-        let mut lists = EntryVecs::new(alloc, self.case.entries, 0, 0.0)?;
+    pub fn entries_agree(self, words: &mut Words<'_>) -> io::Result<bool> {
+        let mut lists = EntryVecs::new(words.alloc, self.case.entries, 0, 0.0)?;
         let played = self.play_entries(&mut lists.lent());
         Ok((played == Ok(self.case.pairs)) & lists.are_next(words)?)
     }
 
     /// Whether a dense run, from the front of the pool, gives the recorded matrix.
-    pub fn matrix_agrees(self, words: &mut Words<'_>, alloc: Global) -> io::Result<bool> {
+    pub fn matrix_agrees(self, words: &mut Words<'_>) -> io::Result<bool> {
         let front = self.numbers.pool.get(..self.case.matrix).unwrap_or(&[]);
-        let mut matrix = Vec::from_slice(alloc, front)?;
+        let mut matrix = Vec::from_slice(words.alloc, front)?;
         let played = self.play_matrix(&mut matrix);
         Ok((played == Ok(self.case.pairs)) & words.is_next(&matrix)?)
     }

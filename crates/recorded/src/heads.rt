@@ -6,7 +6,7 @@ use integrands::{Integrand, Term};
 use planning::Assembly;
 use std::io;
 
-/// A term, by its kind. The factor of one that has it stands further on in the file.
+/// A term, by its kind, a number as `Term` has it. The factor of one that has it stands further on in the file.
 #[derive(Clone, Copy)]
 enum Form {
     Bare(u32),
@@ -15,6 +15,7 @@ enum Form {
 
 impl Form {
     fn read(words: &mut Words<'_>) -> io::Result<Self> {
+        // Two digits of the file: the first is 0 for a bare term.
         let scaled = words.digit()? != 0;
         let kind = u32::from(words.digit()?);
         Ok(if scaled {
@@ -32,7 +33,7 @@ impl Form {
     }
 }
 
-/// How many terms an integrand has, and their forms.
+/// How many terms an integrand has, a number as `Integrand` has it, which check 6 may turn down; and their forms.
 #[derive(Clone, Copy)]
 pub struct Forms {
     terms: u32,
@@ -59,7 +60,7 @@ impl Forms {
     }
 }
 
-/// An element: a, b and c. (Field by field, as `Forms`, of which no field is the same.)
+/// An element: a, b and c. (Its fields are other than those of `Forms`: nothing is shared but reading a digit.)
 pub fn read_element(words: &mut Words<'_>) -> io::Result<Element> {
     Ok(Element {
         a: u32::from(words.digit()?),

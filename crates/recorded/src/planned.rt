@@ -6,7 +6,8 @@ use scatter::EntryLists;
 use std::alloc::{AllocError, Global};
 use std::io;
 
-/// The lengths of a mesh's lists and of those that planning writes. Both sides have as many colours.
+/// The lengths of a mesh's lists and of those that planning writes. Both sides have as many colours. (Flat, as they stand in the file: side by side, and the
+/// colours once.)
 #[derive(Clone, Copy)]
 pub struct PlanLengths {
     pub cell_vertices: usize,
@@ -45,18 +46,12 @@ pub struct MeshVecs {
 
 impl MeshVecs {
     /// A mesh of these kinds, whose other two lists are the next ones, each of n numbers.
-    pub fn read(
-        words: &mut Words<'_>,
-        alloc: Global,
-        sizes: Sizes,
-        kinds: Vec<u8>,
-        n: usize,
-    ) -> io::Result<Self> {
+    pub fn read(words: &mut Words<'_>, sizes: Sizes, kinds: Vec<u8>, n: usize) -> io::Result<Self> {
         Ok(MeshVecs {
             sizes,
             kinds,
-            cell_vertices: words.list(alloc, n)?,
-            cell_edges: words.list(alloc, n)?,
+            cell_vertices: words.list(n)?,
+            cell_edges: words.list(n)?,
         })
     }
 
@@ -70,7 +65,7 @@ impl MeshVecs {
     }
 }
 
-/// The lists that planning writes.
+/// The lists that planning writes. (Flat, as `PlanLists`, to which they are lent: a struct of a side with its `new` is sixteen lines, and takes off eight.)
 #[derive(Drop)]
 pub struct PlanVecs {
     pub test_dofs: Vec<u32>,

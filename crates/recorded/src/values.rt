@@ -1,6 +1,5 @@
 // The values of lists, and lists of them.
 use crate::{Words, bits_of, finite_of};
-use std::alloc::Global;
 use std::io::{self, ErrorKind};
 
 /// A value of a list: an integer of four digits, or a whole word.
@@ -49,8 +48,9 @@ impl Recorded for f64 {
 
 impl Words<'_> {
     /// The next list.
-    pub fn list<T: Recorded>(&mut self, alloc: Global, n: usize) -> io::Result<Vec<T>> {
+    pub fn list<T: Recorded>(&mut self, n: usize) -> io::Result<Vec<T>> {
         self.finish_word();
+        let alloc = self.alloc;
         (0..n).map(|_| T::read(self)).try_collect(alloc)
     }
 

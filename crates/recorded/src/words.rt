@@ -1,14 +1,16 @@
 // The words of a file, read from the front: whole, or a few digits at a time.
 ghost use Rattle.std.specs.Prelude.{◌≤◌, IfOk};
 
+use std::alloc::Global;
 use std::io::{self, ErrorKind};
 use std::str::SplitAsciiWhitespace;
 
 const WORD_BITS: u32 = 64;
 
-/// The words that are left, and how many bits of the last one are.
+/// The words that are left, and how many bits of the last one are; and where the lists that are read of them are allocated.
 #[derive(Drop)]
 pub struct Words<'a> {
+    pub alloc: Global,
     words: SplitAsciiWhitespace<'a>,
     last: u64,
     left: u32,
@@ -16,8 +18,9 @@ pub struct Words<'a> {
 }
 
 impl<'a> Words<'a> {
-    pub fn new(text: &'a str) -> Self {
+    pub fn new(text: &'a str, alloc: Global) -> Self {
         Words {
+            alloc,
             words: text.split_ascii_whitespace(),
             last: 0,
             left: 0,

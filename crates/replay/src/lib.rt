@@ -144,7 +144,8 @@ pub struct Written<'a> {
     pub answers: &'a mut [u32],
 }
 
-// A refusal, as four numbers.
+// A refusal, as four numbers. (The first is 0, 1 or 2 for a record, an add and a refusal: the answers are a lent list of numbers, as `answer_numbers` has
+// them, so that no enum stands there.)
 fn refused(refusal: Refusal) -> [u32; 4]
     ensures { result ≡ answer_numbers (not_accepted (number_of refusal)) }
 {
@@ -172,7 +173,8 @@ fn added(answer: Result<(), Refusal>) -> [u32; 4]
 }
 
 impl Call<'_> {
-    // Makes the call; what it answers, as four numbers.
+    // Makes the call; what it answers, as four numbers. (Each arm ends in the same two steps, on answers of two types: a helper that keeps the run and hands
+    // the answer on takes off four lines, and is eight with its contract.)
     fn play(self, run: &mut Run, plan: Plan, matrix: &mut [f64], lists: &mut EntryLists) -> [u32; 4]
         ensures answered { Answered (plan_lent plan.entry) (call_lent self.entry) (standing (run_of run.old) matrix.old (entries_lent lists.old))
             (run_of run.new) matrix.new (entries_lent lists.new) result }

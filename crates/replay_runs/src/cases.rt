@@ -2,7 +2,6 @@
 use function::Elements;
 use planning::Assembly;
 use recorded::{Head, MeshVecs, PlanLengths, Recorded, Words, read_element};
-use std::alloc::Global;
 use std::{fmt, io};
 
 // How many numbers encode a call.
@@ -14,6 +13,7 @@ pub struct Gathering {
     pub starts: usize,
     pub columns: usize,
     pub values: usize,
+    // A refusal is a number, as the file has it: one that no check has is no `Refusal`, and differs all the same.
     pub answer: Result<u64, u32>,
 }
 
@@ -27,6 +27,7 @@ pub struct Case {
     pub matrix_count: usize,
     pub entry_count: usize,
     pub answer_count: usize,
+    // A refusal is a number here too.
     pub played: Result<u32, u32>,
     pub gathering: Option<Gathering>,
     pub mesh: MeshVecs,
@@ -46,9 +47,10 @@ fn read_gathered(words: &mut Words<'_>) -> io::Result<Option<Result<u64, u32>>> 
 }
 
 impl Case {
-    pub fn read(words: &mut Words<'_>, alloc: Global) -> io::Result<Self> {
+    pub fn read(words: &mut Words<'_>) -> io::Result<Self> {
         let head = Head::read(words)?;
         let entries = words.digit()? == 1;
+        // Two digits; 0 where planning accepts. (No reader of two digits stands in `recorded`: it would be a function for this line alone.)
         let refusal = 16 * u32::from(words.digit()?) + u32::from(words.digit()?);
         let assembly = head.read_assembly(words)?;
         let test_quad = read_element(words)?;
@@ -65,7 +67,7 @@ impl Case {
         let values = usize::read(words)?;
         let gathered = read_gathered(words)?;
         let kinds = usize::read(words)?;
-        let kinds = words.list(alloc, kinds)?;
+        let kinds = words.list(kinds)?;
         Ok(Case {
             assembly: Assembly {
                 test: Elements {
@@ -94,9 +96,9 @@ impl Case {
                 values,
                 answer,
             }),
-            mesh: MeshVecs::read(words, alloc, head.sizes, kinds, lengths.cell_vertices)?,
-            calls: words.list(alloc, call_numbers)?,
-            pool: words.list(alloc, pool)?,
+            mesh: MeshVecs::read(words, head.sizes, kinds, lengths.cell_vertices)?,
+            calls: words.list(call_numbers)?,
+            pool: words.list(pool)?,
         })
     }
 }

@@ -1,7 +1,8 @@
 // Plays recorded lists of calls: each case of data/dense and of data/entries is a planning with its calls, encoded for `replay`, and all that they must answer
 // and leave. Plays it by one call of `replay`, and compares the position, every answer and every number of the matrix and of the entry lists, floats by their
-// bits. Where planning is accepted in data/entries it then gathers the entry lists, as the calls left them, into sparse rows, and compares the answer and every number of
-// their three lists. tools/record_calls.c made the files: a C implementation written from the paper and, for the sparse rows, from the request. Its head says how, and what a line holds.
+// bits. Where planning is accepted in data/entries it then gathers the entry lists, as the calls left them, into sparse rows, and compares the answer and every
+// number of their three lists. tools/record_calls.c made the files: a C implementation written from the paper and, for the sparse rows, from the request. Its
+// head says how, and what a line holds.
 #![tactic(auto)]
 
 mod cases;
@@ -19,9 +20,9 @@ const VALUE_BEFORE: f64 = 0.5;
 
 // Reads a case whole and plays it.
 fn case_agrees(rt: &HostRuntime, words: &mut Words<'_>) -> io::Result<bool> {
-    let alloc = rt.alloc();
-    let case = Case::read(words, alloc)?;
-    let mut matrix = words.list(alloc, case.matrix_count)?;
+    let alloc = words.alloc;
+    let case = Case::read(words)?;
+    let mut matrix = words.list(case.matrix_count)?;
     let mut lists = PlanVecs::new(alloc, case.lengths)?;
     let mut entries = EntryVecs::new(alloc, case.entry_count, NUMBER_BEFORE, VALUE_BEFORE)?;
     let mut answers = vec![in alloc; NUMBER_BEFORE; case.answer_count]?;
@@ -50,7 +51,7 @@ fn case_agrees(rt: &HostRuntime, words: &mut Words<'_>) -> io::Result<bool> {
         & entries.are_next(words)?;
     if let Some(gathering) = case.gathering {
         let (rows, columns) = played.map_or((0, 0), |run| (run.numbers.rows, run.numbers.columns));
-        agrees &= gathering.agrees(words, alloc, &entries, rows, columns)?;
+        agrees &= gathering.agrees(words, &entries, rows, columns)?;
     }
     let verdict = if agrees { "agree" } else { "DIFFER" };
     println!(rt; "{case}: {verdict}")?;
@@ -60,7 +61,7 @@ fn case_agrees(rt: &HostRuntime, words: &mut Words<'_>) -> io::Result<bool> {
 // The file: how many cases, then the cases.
 fn play(rt: &HostRuntime, path: &str) -> io::Result<()> {
     let text = fs::read_to_string(rt, path)?;
-    let mut words = Words::new(text.as_str());
+    let mut words = Words::new(text.as_str(), rt.alloc());
     let n = words.word()?;
     let mut differ = 0u64;
     // Counted: each case is read from the words as it comes, and stands in no list.

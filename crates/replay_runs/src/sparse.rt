@@ -2,7 +2,6 @@
 use crate::cases::Gathering;
 use recorded::{EntryVecs, Words};
 use sparse_rows::{RunEntries, SparseLists, sparse_rows};
-use std::alloc::Global;
 use std::io;
 
 impl Gathering {
@@ -10,14 +9,13 @@ impl Gathering {
     pub fn agrees(
         self,
         words: &mut Words<'_>,
-        alloc: Global,
         entries: &EntryVecs,
         row_count: u32,
         column_count: u32,
     ) -> io::Result<bool> {
-        let mut starts = words.list(alloc, self.starts)?;
-        let mut columns = words.list(alloc, self.columns)?;
-        let mut values = words.list(alloc, self.values)?;
+        let mut starts = words.list(self.starts)?;
+        let mut columns = words.list(self.columns)?;
+        let mut values = words.list(self.values)?;
         let lent = RunEntries {
             rows: &entries.rows,
             columns: &entries.columns,

@@ -12,7 +12,7 @@ use job::{MOST_WORKLIST_CELLS, check_size, read_head};
 use std::io::{self, Read};
 use worklist_text::{Text, refused_text, worklist_text};
 
-// The most bytes that are kept, one more than the largest job has. They stand in an array, since nothing here allocates.
+// The most bytes that are kept, one more than the largest job has. They stand in an array: who calls `answer_file` lends it no allocator.
 const MOST_BYTES: usize = 20 + 12 * (MOST_WORKLIST_CELLS as usize);
 
 // How many bytes are read at a time where none is kept.
@@ -35,11 +35,12 @@ fn read_some<R: Read>(file: &mut Source<R>, piece: &mut [u8], n: usize) -> usize
     file.read_full(&mut piece[..most])
 }
 
-// Reads n bytes, as far as so many come, a piece at a time: none is kept. (The count grows by what came, and not by one: a `while`, for which no iterator stands.)
+// Reads n bytes, as far as so many come, a piece at a time: none is kept. (The count grows by what came, and not by one: a `while`, for which
+// no iterator stands.)
 fn skip<R: Read>(file: &mut Source<R>, n: usize) -> usize
     ensures { result ≤ n }
 {
-    // Of fixed size, as nothing here allocates; a piece is read in part only where the input ends.
+    // Of fixed size, as no allocator is at hand; a piece is read in part only where fewer bytes are left.
     let mut piece = [0; SKIPPED];
     let mut count = 0;
     while count < n {
@@ -99,7 +100,7 @@ fn answer<R: Read>(file: &mut Source<R>, bytes: &mut [u8; MOST_BYTES]) -> Answer
 // The whole of the program `worklist`, on the job that an open file holds: prints the answer by one call, then hands back the error where a read failed.
 pub fn answer_file<P: Print, R: Read>(rt: &P, file: &mut R) -> io::Result<()> {
     let mut file = Source::new(file);
-    // Of fixed size, as nothing here allocates: `MOST_BYTES` is what the largest job needs.
+    // Of fixed size, as no allocator is at hand: `MOST_BYTES` is what the largest job needs.
     let mut bytes = [0; MOST_BYTES];
     let answer = answer(&mut file, &mut bytes);
     rt.write_all(answer.text.as_str().as_bytes())?;

@@ -117,8 +117,8 @@ pub m7_twice_text_holds : Holds m7_twice_text
 unfolding opened_worklist_text
 m7_twice_text_holds = lines (job_of m7_twice 1) m7_twice_text_passes ∙ ap (flat_map line_of) m7_records_holds
 
--- M7: cells (0,1,2), (1,2,0), batch 1: 7. M8: M planned with batch 0: 5. Beside the paper's: the job of M4 one byte short, and one byte longer, is 12; a whole job
--- of 65 cells is 13
+-- M7: cells (0,1,2), (1,2,0), batch 1: 7. M8: M planned with batch 0: 5. Beside the paper's: the job of M4 one byte short, and one byte longer, is 12; a whole
+-- job of 65 cells is 13
 abbrev pub refused_texts : Example
 refused_texts =
     example

@@ -41,7 +41,7 @@ planned_worklist s e =
     go zero = refl
     go (suc k) = refl
 
--- it is never longer than the array
+-- it is never longer than the text has room for
 pub worklist_short : (s : List ℕ) → length (worklist s) ≤ most_text
 unfolding job_planning
 worklist_short s = go (job_refusal s (Some most_worklist_cells)) refl

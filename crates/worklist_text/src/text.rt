@@ -39,7 +39,8 @@ pub(crate) fn lines_text(work: &[u32]) -> Text
     text
 }
 
-// `refused n`, of a refusal's number: a job's refusal and planning's are two types. (`write!` of one's Display is no plainer: no contract says what that writes.)
+// `refused n`, of a refusal's number: a job's refusal and planning's are two types. (`write!` of one's Display is no plainer: no contract says
+// what that writes.)
 pub fn refused_text(n: u32) -> Text
     ensures { result.bytes ≡ refused_line n }
 {

@@ -28,7 +28,7 @@ const PAIRS: usize = CELLS * CELLS;
 // The most bytes of the text: a line of at most 12 for each pair.
 pub const MOST_TEXT: usize = 12 * PAIRS;
 
-// The kind of a triangle.
+// The kind of a triangle. (`oracle_runs` has the same line: no crate below both has a constant for it.)
 const TRIANGLE: u8 = 3;
 
 // The length of a DOF list. A dim above the most is refused before the lists' lengths are read.
@@ -47,7 +47,7 @@ fn mesh_text(mesh: Mesh, assembly: Assembly) -> Text
     let cells = mesh.sizes.cells as usize;
     let rows = dof_places(mesh.sizes.cells, assembly.test.triangle);
     let columns = dof_places(mesh.sizes.cells, assembly.trial.triangle);
-    // Of fixed size, as nothing here allocates; planning is lent the front of each, of just the length that check 8 wants.
+    // Of fixed size: a `Vec` may find no memory, and there is a text for every job. Planning is lent the front of each, of just the length that check 8 wants.
     let mut test_dofs = [0; DOFS];
     let mut trial_dofs = [0; DOFS];
     let mut test_colours = [0; CELLS];
@@ -105,7 +105,7 @@ fn numbers_text(job: JobNumbers, vertex_list: &[u32], edge_list: &[u32]) -> Text
 pub fn worklist_text(bytes: &[u8]) -> Text
     ensures { result.bytes ≡ worklist bytes.now }
 {
-    // Of fixed size, as nothing here allocates: the most cells that a job may have.
+    // Of fixed size, for the most cells that a job may have: a `Vec` may find no memory, and there is a text for all bytes.
     let mut vertex_list = [0; 3 * CELLS];
     let mut edge_list = [0; 3 * CELLS];
     let limit = Some(MOST_WORKLIST_CELLS);

@@ -142,8 +142,8 @@ pub fn square(n: u32) -> OwnedMesh {
     OwnedMesh::of_cells((n + 1) * (n + 1), &cells)
 }
 
-/// The patterns in the order of the table: of test kind n and trial kind k one shared vertex, a shared edge in both directions, and the identical cell. Each is a
-/// list of (test place, trial place).
+/// The patterns in the order of the table: of test kind n and trial kind k one shared vertex, a shared edge in both directions, and the identical cell. Each is
+/// a list of (test place, trial place).
 pub fn table() -> Vec<(u8, u8, Vec<(usize, usize)>)> {
     let mut table = Vec::new();
     for (n, k) in [(3, 3), (3, 4), (4, 3), (4, 4)] {

@@ -1,4 +1,5 @@
--- `replay::replay` meets its contract: where planning refuses nothing is played; else what the calls leave is the machine's, by the third property. Assumes nothing.
+-- `replay::replay` meets its contract: where planning refuses nothing is played; else what the calls leave is the machine's, by the third
+-- property. Assumes nothing.
 use Rattle.std.proofs.Common.{rules, sym}
 use Rattle.std.proofs.lemmas.Result.{err_from_is_err_and}
 use Rattle.replay.specs.Laws.{finished_refused, finished_begun}
