@@ -57,7 +57,7 @@ impl Refusal {
     }
 }
 
-// The same number, for code that turns into a u32 whatever it is handed; elsewhere `number` says what the u32 is.
+// The same number, as the forms of C take it; elsewhere `number` says what the u32 is.
 impl From<Refusal> for u32 {
     fn from(refusal: Refusal) -> u32
         ensures { result ≡ number_of refusal }
