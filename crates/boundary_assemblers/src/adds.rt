@@ -43,8 +43,8 @@ impl Run {
         );
     }
 
-    // The local matrix of record p, from what is lent and zeros. Checks 9 to 11. (The dims of a pair are known to be few only of a run that 21 has passed: so it is
-    // asked here, and in `LentNumbers` of the form of the local matrix.)
+    // The local matrix of record p, from what is lent and zeros. Checks 9 to 11. (The dims of a pair are known to be few only of a run that 21 has passed: so
+    // it is asked here, and in `LentNumbers` of the form of the local matrix.)
     pub(crate) fn write_local<L: LentNumbers>(
         &self,
         pair: Pair,

@@ -122,8 +122,8 @@ impl Run {
         kinds_match(n.cells, n.triangles, n.quads, plan.kinds)
     }
 
-    // 21: of a kind list that is that of the cells, the plan has its length. (That it is, is asked here, of `quads_before` and of `cell`: it is known of a plan only
-    // after `kinds_fit`, and run and plan are any host's, so it is a fact of neither type.)
+    // 21: of a kind list that is that of the cells, the plan has its length. (That it is, is asked here, of `quads_before` and of `cell`: it is known of a plan
+    // only after `kinds_fit`, and run and plan are any host's, so it is a fact of neither type.)
     fn plan_right(&self, plan: Plan) -> bool
         requires { Matched self.now.numbers plan.kinds.now }
         ensures { result ≡ plan_right (run_of self.now) (plan_lent plan.entry) }

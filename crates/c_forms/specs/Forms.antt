@@ -1,5 +1,5 @@
--- What each C form stands for, and the C form of each answer. An enum does not pass to C: its case is a number, and so is a bool. Elements and touching pairs per
--- two kinds pass as they are. Assumes nothing.
+-- What each C form stands for, and the C form of each answer. An enum does not pass to C: its case is a number, and so is a bool. Elements and touching pairs
+-- per two kinds pass as they are. Assumes nothing.
 use Rattle.std.specs.Prelude.{ℕ, cond, not, eqb}
 use Rattle.function.specs.declared.Elements.{Elements}
 use Rattle.integrands.specs.declared.Term.{Term}

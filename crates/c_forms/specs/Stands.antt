@@ -1,5 +1,5 @@
--- The C form of an answer stands for it: read back, its refusal and its run, or the number kept, are those that the definitions give. A refused call hands the run back as it
--- was, and a run begun from a refused planning gets 21. Assumes nothing.
+-- The C form of an answer stands for it: read back, its refusal and its run, or the number kept, are those that the definitions give. A refused call hands the
+-- run back as it was, and a run begun from a refused planning gets 21. Assumes nothing.
 use Rattle.std.specs.Prelude.{ℕ, zero, suc, ◌≡◌, refl, Bool, true, false, List, [], ◌∷◌, ◌++◌, Float}
 use Rattle.lent_numbers.specs.Lent.{Touching, Distant}
 use Rattle.lists.specs.Bool.{◌and◌, every_fails}

@@ -1,9 +1,8 @@
 -- What writing the work list asks, and what it leaves. Assumes nothing.
-use Rattle.std.specs.Prelude.{ℕ, ◌+◌, ◌-◌, ◌*◌, ◌≤◌, ◌<◌, ◌≡◌, refl, true, length, get_or, set, take, replicate}
-use Rattle.std.proofs.Common.{mul-le-mul, arith, subst, ◌∙◌, ⊎_elim, length-set, get_or-set_same, get_or-set_other}
+use Rattle.std.specs.Prelude.{ℕ, ◌+◌, ◌-◌, ◌*◌, ◌≤◌, ◌<◌, ◌≡◌, refl, true, length, get_or, take, replicate}
+use Rattle.std.proofs.Common.{mul-le-mul, arith, subst, ◌∙◌}
 use Rattle.std.proofs.Math.Path.{sym, ap}
 use mathlib.Core.List.{List, ◌++◌}
-use Rattle.lists.specs.Bounded.{eq_or_ne}
 use Rattle.lists.specs.Stores.{sets_all}
 use Rattle.lists.specs.Writes.{Room, Wrote, wrote_more, wrote_length}
 use Rattle.grid.specs.Cells.{distinct}

@@ -143,8 +143,8 @@ pub kinds_refused_hold : Holds kinds_refused
 unfolding opened_plans
 kinds_refused_hold = refl
 
--- 4 looks at the kinds present alone, and where both are it wants a and b equal, each side by itself: elements whose a differ, and a quad's dim of 12, on M, and
--- on a mesh with a quad; sides that differ
+-- 4 looks at the kinds present alone, and where both are it wants a and b equal, each side by itself: elements whose a differ, and a quad's dim of 12, on M,
+-- and on a mesh with a quad; sides that differ
 abbrev unlike : Elements
 unlike = record { triangle = element 1 0 0; quad = element 0 1 0 }
 
@@ -166,8 +166,8 @@ pub elements_refused_hold : Holds elements_refused
 unfolding opened_plans
 elements_refused_hold = refl
 
--- five cells, three triangles and two quads: S = 11 = 5 + 2 + 2 + 2, N = 14. Test with one DOF an edge and one in a quad, trial with one in a triangle and two in a
--- quad: 16 edges and 2 quads give 18 rows, 3 and twice 2 are 7 columns
+-- five cells, three triangles and two quads: S = 11 = 5 + 2 + 2 + 2, N = 14. Test with one DOF an edge and one in a quad, trial with one in a triangle and two
+-- in a quad: 16 edges and 2 quads give 18 rows, 3 and twice 2 are 7 columns
 abbrev pub five_numbers : Example
 five_numbers =
     let n : PlanNumbers = plan_numbers (with five_cells (elements 0 1 0 1) (elements 0 0 1 2)) in

@@ -26,8 +26,8 @@ pub record Listed (m : Mesh) (N : ℕ) (work : List ℕ) : Type 0 where
   -- the others of two cells of the mesh that share one, with their own pattern, 0 to 148
   pub touching : (k : ℕ) → N ≤ k → k < m.cells * m.cells → Touching m (get_or (records_of work) k (rec 0 0 0))
 
--- ---- DOFs, colours and owners of the elements on C cells. Place p of cell i, first its vertices, then its edges, then its interior, is visit `visit_of s i p`, and
--- the DOFs of that place begin at `dof_place s i p` of the DOF list
+-- ---- DOFs, colours and owners of the elements on C cells. Place p of cell i, first its vertices, then its edges, then its interior, is visit
+-- `visit_of s i p`, and the DOFs of that place begin at `dof_place s i p` of the DOF list
 
 -- how many DOFs the cells before cell i have together
 abbrev pub cells_dofs : Space → ℕ → ℕ

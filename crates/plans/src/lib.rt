@@ -1,4 +1,5 @@
-// Planning: what it hands back, and in specs/ what it takes, its checks, what it writes, and what holds of every planning that is accepted.
+// Planning: what it hands back, the lists that it writes and those that a run is lent, and in specs/ what it takes, its checks, what it writes, and what holds
+// of every planning that is accepted.
 #![tactic(auto)]
 
 ghost use Rattle.std.specs.Prelude.{◌≡◌};
@@ -17,8 +18,8 @@ pub struct KindPairs {
 }
 
 // The numbers that planning hands back: the sizes C, V and E of the mesh, the cells per kind, S (touching pairs), N (distant pairs), the touching pairs per two
-// kinds, the DOF counts (rows for test, columns for trial), the elements and the integrand. (The plan itself is the kind list, the two DOF lists and the work list,
-// which are lent.)
+// kinds, the DOF counts (rows for test, columns for trial), the elements and the integrand. (The plan itself is the kind list, the two DOF lists and the work
+// list, which are lent.)
 #[derive(Clone, Copy)]
 pub struct PlanNumbers {
     pub cells: u32,
@@ -45,8 +46,8 @@ pub struct Plan<'a> {
     pub work: &'a [u32],
 }
 
-// The lists that planning is lent to write: each side has its own DOF, colour and owner list. (A struct of the three, twice, was tried: the borrow checker does
-// not cover structs in a struct whose lists C lends one by one, as `seivalto_plan` has them.)
+// The lists that planning is lent to write: each side has its own DOF, colour and owner list. (A struct of the three, twice, was tried: `seivalto_plan`, which
+// C lends each list by itself, failed with "a struct holds at one lifetime parameter two references at two lifetimes".)
 #[derive(Drop)]
 pub struct PlanLists<'a> {
     pub test_dofs: &'a mut [u32],

@@ -1,5 +1,5 @@
--- The dim of a cell is that of its kind; and the DOFs of a cell in the DOF list of a planning that is accepted: as many as its dim, each below the count. Assumes
--- nothing.
+-- The dim of a cell is that of its kind; and the DOFs of a cell in the DOF list of a planning that is accepted: as many as its dim, each below the count.
+-- Assumes nothing.
 use Rattle.std.specs.Prelude.{ℕ, ◌<◌, ◌≡◌, refl, true, false, List, eqb}
 use Rattle.std.proofs.Common.{arith, ⊎_elim}
 use Rattle.std.proofs.Math.ListN.{length, get_or}

@@ -65,7 +65,8 @@ pub first_look_holds : Holds first_look
 unfolding opened_runs
 first_look_holds = refl
 
--- look: 20 after the last record, 21 past it; 21 where the plan has another length, before 20 too; 22 for another pattern, a cell not below 1, a DOF not below 1
+-- look: 20 after the last record, 21 past it; 21 where the plan has another length, before 20 too; 22 for another pattern, a cell not below 1, a DOF not below
+-- 1
 abbrev pub looks_answered : Example
 looks_answered =
     example
@@ -198,8 +199,8 @@ mixed_entered_holds = refl
 
 -- ---- a kind without cells
 
--- The triangle's numbers, forged: its touching pair is said to be one of quads, of which there are none. These have no DOFs, whatever their element says, so that
--- there are no entries: entries calls give 22 with empty lists, as the numbers put two quads at the record of the triangle, and 21 with others
+-- The triangle's numbers, forged: its touching pair is said to be one of quads, of which there are none. These have no DOFs, whatever their element says, so
+-- that there are no entries: entries calls give 22 with empty lists, as the numbers put two quads at the record of the triangle, and 21 with others
 abbrev pub absent_unread : Example
 absent_unread =
     let r : Run = record { numbers = numbers (per_kinds 0 0 0 1); entries = true; position = 0 } in
