@@ -1,6 +1,6 @@
 -- Laws on local matrices put into the matrix and into entry lists: which entries count, and how long the lists are. Assumes nothing.
-use Rattle.std.specs.Prelude.{ℕ, take, drop, replicate, ◌+◌, ◌*◌, ◌≤◌, ◌<◌, ◌≡◌, refl, length, get_or, Float}
-use Rattle.std.proofs.Common.{arith, sym, ap, ap₂, ◌∙◌, length-set}
+use Rattle.std.specs.Prelude.{ℕ, take, drop, replicate, ◌+◌, ◌*◌, ◌≤◌, ◌<◌, ◌≡◌, refl, length, get_or, set, Float}
+use Rattle.std.proofs.Common.{arith, zero-add, sym, ap, ap₂, ◌∙◌, length-set}
 use mathlib.Core.List.{List, ◌++◌, flat_map, map}
 use borrow.Rule.Slice.PartMut.{put_mid}
 use Rattle.std.specs.Float.{nan}
@@ -9,10 +9,11 @@ use Rattle.std.proofs.Math.Seq.{take-length}
 use Rattle.std.proofs.lemmas.Slice.{put_mid-paste}
 use Rattle.std.proofs.lemmas.Simd.{splat_is_map}
 use Rattle.std.proofs.lemmas.List.Edits.{sets, sets-eq, get_or-between}
-use Rattle.lists.specs.Writes.{Blocks, blocks_room, blocks_turn, blocks_done}
+use Rattle.lists.specs.Stores.{sets_all}
+use Rattle.lists.specs.Writes.{Stores, stores_turn, stores_done, Blocks, blocks_room, blocks_turn, blocks_done}
 use Rattle.numbers.specs.Floats.{◌!◌}
 use Rattle.std.proofs.lemmas.List.{length-map}
-use Rattle.lists.specs.Range.{range, length_range, flat_map_below, flat_map_places, map_below, map_places, length_blocks}
+use Rattle.lists.specs.Range.{range, length_range, flat_map_below, flat_map_places, map_below, length_blocks}
 use Rattle.lists.specs.Fold.{upto, upto_keeps, upto_ext, Folded, folded_turn}
 use Rattle.lists.specs.Places.{in_row}
 use Rattle.scatter.specs.Adding.{add_at, add_local, local_rows, local_columns, local_values}
@@ -115,6 +116,15 @@ put_block : {A : Type 0} (a k : ℕ) (xs ys : List A) → length ys ≡ k → a 
 put_block a k xs ys e r =
     put_mid-paste a k xs ys ys (length ys) refl e refl ∙ ap (λ l. take a xs ++ l ++ drop (a + length ys) xs) (take-length ys) ∙ sym (sets-eq ys xs a (omega arith))
 
+-- a turn of the loop that writes a column of the values, and the whole loop
+pub stored_turn : (entries : List Float) (j : ℕ) {m i : ℕ} {before after : List Float} → Stores (λ i. entry_at entries m i j) m before after 0 i → i < m → {v : Float}
+    → v ≡ entries ! (i + m * j) → Stores (λ i. entry_at entries m i j) m before (set after i v) 0 (i + 1)
+stored_turn entries j {m} {i} f h e = rw e (rw (zero-add i) at (stores_turn f h))
+
+pub stored_done : (entries : List Float) (j : ℕ) {i : ℕ} {before after : List Float} → Stores (λ i. entry_at entries (length before) i j) (length before) before after 0 i → length before ≤ i
+    → after ≡ map (λ i. entry_at entries (length before) i j) (range (length before))
+stored_done entries j {before = before} f h = stores_done f h ∙ sets_all before _ (length-map (range (length before)) _ ∙ length_range (length before))
+
 -- a turn of each of the three: the block of column j is written over a part of the list
 pub block_turn : {A : Type 0} {f : ℕ → List A} {w n at j k : ℕ} {xs ys zs : List A} → Blocks f w n xs ys at j → ((i : ℕ) → length (f i) ≡ w) → j < n
     → at + w * n ≤ length xs → zs ≡ f j → k ≡ w → Blocks f w n xs (put_mid (at + w * j) k ys zs) at (j + 1)
@@ -144,14 +154,6 @@ values_of entries m j = map (λ i. entry_at entries m i j) (range m)
 
 pub length_values_of : (entries : List Float) (m j : ℕ) → length (values_of entries m j) ≡ m
 length_values_of entries m j = length-map (range m) _ ∙ length_range m
-
--- they stand together
-pub values_together : (entries : List Float) (m j : ℕ) → length (between (m * j) (m * j + m) entries) ≡ m → between (m * j) (m * j + m) entries ≡ values_of entries m j
-values_together entries m j all =
-    let part : List Float = between (m * j) (m * j + m) entries in
-    sym (map_places part nan)
-    ∙ ap (λ (n : ℕ). map (λ i. get_or part i nan) (range n)) all
-    ∙ map_below _ _ m (λ i l. get_or-between entries (m * j) (m * j + m) i nan (omega arith) ∙ ap (λ (k : ℕ). entries ! k) (omega arith))
 
 pub values_done : (entries : List Float) {m n at j : ℕ} {xs ys : List Float} → Blocks (values_of entries m) m n xs ys at j → n ≤ j
     → ys ≡ sets xs at (local_values (entry_at entries m) m n)

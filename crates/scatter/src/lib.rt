@@ -2,7 +2,8 @@
 #![tactic(auto)]
 
 ghost use Rattle.function.specs.Elements.{most_dim};
-ghost use Rattle.std.specs.Prelude.{◌≡◌, ℕ, ◌+◌, ◌*◌, ◌≤◌, length};
+ghost use Rattle.std.specs.Prelude.{◌≡◌, ℕ, ◌+◌, ◌*◌, ◌≤◌, ◌<◌, length, map};
+ghost use Rattle.lists.specs.Range.{range};
 ghost use Rattle.std.proofs.lemmas.List.Edits.{sets};
 ghost use Rattle.numbers.specs.Floats.{◌!◌};
 ghost use Rattle.scatter.specs.Adding.{add_local, local_rows, local_columns, local_values};
@@ -36,6 +37,18 @@ fn add_column(matrix: &mut [f64], rows: usize, base: usize, test_dofs: &[u32], e
 {
     for (&row, &entry) in test_dofs.iter().zip(entries) {
         matrix[wide(row) + base] += entry;
+    }
+}
+
+// The entries of trial basis function j, one for each place of the list. (By number and not as a slice, so that the order which the lists promise, i + m·j,
+// stands in the code, and the other order can be tried against the contract.)
+fn write_column(values: &mut [f64], entries: &[f64; 100], j: usize)
+    requires { (length values.old ≤ most_dim) × (j < most_dim) }
+    ensures { values.new ≡ map (λ (i : ℕ). entry_at entries.now (length values.old) i j) (range (length values.old)) }
+{
+    let m = values.len();
+    for (i, value) in values.iter_mut().enumerate() {
+        *value = entries[i + m * j];
     }
 }
 
@@ -91,12 +104,10 @@ impl LocalMatrix<'_> {
         ensures { values.new ≡ sets values.old at
             (local_values (entry_at self.entry.entries.now (length self.entry.test_dofs.now)) (length self.entry.test_dofs.now) (length self.entry.trial_dofs.now)) }
     {
-        let entries = self.entries;
         let m = self.test_dofs.len();
         for j in 0..self.trial_dofs.len() {
-            let first = m * j;
-            let place = at + first;
-            values[place..place + m].copy_from_slice(&entries[first..first + m]);
+            let place = at + m * j;
+            write_column(&mut values[place..place + m], self.entries, j);
         }
     }
 }

@@ -6,4 +6,4 @@ use Rattle.scatter.proofs.LocalMatrix.write_values.Given as goal
 
 abbrev pub invariant-loop-j : goal.invariant-loop-j
 invariant-loop-j l =
-    Blocks (values_of l.entries (length l.self.test_dofs.now)) (length l.self.test_dofs.now) (length l.self.trial_dofs.now) l.initial.values l.values l.at l.j
+    Blocks (values_of l.self.entries.now (length l.self.test_dofs.now)) (length l.self.test_dofs.now) (length l.self.trial_dofs.now) l.initial.values l.values l.at l.j
