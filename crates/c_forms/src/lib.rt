@@ -212,7 +212,7 @@ fn no_numbers(test: Elements, trial: Elements, f: CIntegrand) -> CNumbers
     }
 }
 
-// The number of an answer: 0 where the call is accepted.
+// The number of an answer, as C has it: 0 where the call is accepted.
 fn refusal_of<T>(answer: &Result<T, Refusal>) -> u32
     ensures { result ≡ told answer.now }
 {

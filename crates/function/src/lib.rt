@@ -66,7 +66,8 @@ impl Elements {
         element.dim(kind)
     }
 
-    // The local DOFs of so many triangles and quads together. Of elements that hold any u32 the sum fits.
+    // The local DOFs of so many triangles and quads together. Of elements that hold any u32 the sum fits. (Two counts, here and below: a struct of them would be
+    // made at each call, of two fields of planning's numbers.)
     pub fn places(self, triangles: u32, quads: u32) -> usize
         requires { (triangles ≤ most_cells) × (quads ≤ most_cells) }
         ensures { result ≡ triangles * cell_dim self 3 + quads * cell_dim self 4 }

@@ -184,7 +184,7 @@ fn edges_of(n: u32) -> &'static [(u32, u32)]
     if n == 3 { &TRIANGLE_EDGES } else { &QUAD_EDGES }
 }
 
-// Writes the keys of the two vertices that each edge of a cell joins, from a place on.
+// Writes the keys of the two vertices that each edge of a cell joins, from a place on. (By the edge's number, which says where its key stands.)
 pub(crate) fn write_cell_keys(cell: &[u32], keys: &mut [u32], at: usize)
     requires in_bounds { (3 ≤ length cell.now) × (length cell.now ≤ 4) }
     requires most_vertices_value { (all_below cell.now most_vertices ≡ true) × (at + length cell.now ≤ length keys.old) }

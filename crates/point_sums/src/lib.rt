@@ -264,7 +264,8 @@ pub trait AddPoint {
         ensures { AddedAt pair.entry entries.old entries.new (value_at (integrand self.now) pair.entry) };
 }
 
-// A term's form, known to the compiler: without a factor, or with one.
+// A term's form, known to the compiler: without a factor, or with one. (With `Term` in its place, which is matched at each entry, distant adds of one term
+// take up to 1.12 times the instructions, at dims 3 and 6.)
 pub trait Form: Copy {
     ghost term: { Self → ℕ → Term };
 
