@@ -138,17 +138,20 @@ impl Run {
             & (plan.work.len() == WIDTH * self.pair_count())
     }
 
-    // 21, of the run and the plan.
+    // 21, of the run and the plan. The counts come before the kind list, which is read whole: a run whose counts are wrong is turned down without it.
     fn run_right(&self, plan: Plan) -> bool
         ensures { result ≡ every (read_by21 (run_of self.now) (plan_lent plan.entry) true) }
     {
         if !self.ranges_right() {
             return false;
         }
+        if !self.counts_right() {
+            return false;
+        }
         if !self.kinds_fit(plan) {
             return false;
         }
-        self.counts_right() & self.plan_right(plan)
+        self.plan_right(plan)
     }
 
     // How many of the cells before a cell are quads. Cells of one kind are not counted.
