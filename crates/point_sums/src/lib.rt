@@ -165,7 +165,7 @@ pub fn turned_parts(test: Point) -> Parts
 
 // A term with curls, with any c; parts are the curls of the test basis functions.
 #[inline(always)]
-pub fn add_curls(entries: &mut [f64; 100], pair: PointPair, parts: &Parts, term: Term, c: f64)
+pub fn add_turned(entries: &mut [f64; 100], pair: PointPair, parts: &Parts, term: Term, c: f64)
     requires { MayAdd pair entries.old × (3 ≤ pair.trial.table.rows) × Turned pair.test parts.now }
     ensures { AddedAt pair.entry entries.old entries.new (curls_at pair.entry term c) }
 {
@@ -179,6 +179,16 @@ pub fn add_curls(entries: &mut [f64; 100], pair: PointPair, parts: &Parts, term:
         |j| integrands::trial_part(x, trial, j),
         |i, b| integrands::evaluate(term, x, parts.at(i), b, test_jdet, trial_jdet),
     );
+}
+
+// A term with curls, with any c. (`Curls` works the curls of a test point out once, for all its pairs.)
+#[inline(always)]
+pub fn add_curls(entries: &mut [f64; 100], pair: PointPair, term: Term, c: f64)
+    requires { MayAdd pair entries.old × (3 ≤ pair.test.table.rows) × (3 ≤ pair.trial.table.rows) }
+    ensures { AddedAt pair.entry entries.old entries.new (curls_at pair.entry term c) }
+{
+    let parts = turned_parts(pair.test);
+    add_turned(entries, pair, &parts, term, c);
 }
 
 // Two terms other than curl-curl, first plus second: c·t·r and d·t·r, each with its factor.
@@ -351,7 +361,7 @@ impl<F: Form> AddPoint for Curls<F> {
         let first = self.form.term(integrands::kind_of(self.integrand.first));
         let x = pair.value(first);
         let c = x.factor();
-        add_curls(entries, pair, parts, first, c);
+        add_turned(entries, pair, parts, first, c);
     }
 }
 

@@ -17,5 +17,5 @@ returns g c =
     let f = c.args.self.now.integrand in
     let at = rw (c.term-first.ensures, c.kind_of.ensures, c.requires.1.1) at c.value-x.ensures in
     let curls = value_curls (one_curls f c.requires.1.0 c.requires.1.2) at in
-    let sums = rw (c.factor-c.ensures, c.term-first.ensures, c.kind_of.ensures, c.requires.1.1) at c.add_curls.ensures in
+    let sums = rw (c.factor-c.ensures, c.term-first.ensures, c.kind_of.ensures, c.requires.1.1) at c.add_turned.ensures in
     added_as sums (λ i j. ap (weighed c.args.pair.weight) (term_curls _ _ _ _ _ _ curls ∙ one_term f _ _ _ _ _ c.requires.1.0))

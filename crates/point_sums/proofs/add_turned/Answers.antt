@@ -1,4 +1,4 @@
--- `point_sums::add_curls` meets its contract: what the closures give at each entry. Assumes nothing.
+-- `point_sums::add_turned` meets its contract: what the closures give at each entry. Assumes nothing.
 use Rattle.std.proofs.Common.{◌≡◌, ◌≤◌, rules}
 use Rattle.table.specs.Views.{row_of}
 use Rattle.integrands.specs.declared.KindValue.TheVariants.{Curls}
@@ -6,7 +6,7 @@ use Rattle.integrands.specs.Parts.{factored, curls, from_parts}
 use Rattle.integrands.specs.Columns.{table_reach}
 use Rattle.integrands.specs.ValueFacts.{curls_from}
 use Rattle.point_sums.specs.Parts.{part_at}
-use Rattle.point_sums.proofs.add_curls.Goals as goal
+use Rattle.point_sums.proofs.add_turned.Goals as goal
 
 pub add_values-requires-clause-may_bring : goal.add_values-requires-clause-may_bring
 add_values-requires-clause-may_bring c = λ j l.
