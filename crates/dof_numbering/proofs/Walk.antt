@@ -46,10 +46,21 @@ numbers_step l d at n i w e f =
     let g : at + w ≡ at + length (up_from n i) = omega (arith, length_up_from n i) in
     rw (e, g, add-one) (sets_more l at (up_from n i) (n + i))
 
-pub owners_step : (l o ys : List ℕ) (at d x i w k : ℕ) → o ≡ sets l at (owners_on d x i) → w ≡ i → at + 3 * w + k ≤ length o → k ≡ 3 → ys ≡ d ∷ x ∷ i ∷ []
+pub owners_step : (l o : List ℕ) (at d x i w : ℕ) → o ≡ sets l at (owners_on d x i) → w ≡ i
+    → set (set (set o (at + 3 * w) d) (at + 3 * w + 1) x) (at + 3 * w + 2) i ≡ sets l at (owners_on d x (i + 1))
+unfolding owners_on
+owners_step l o at d x i w e f =
+    let L : ℕ = at + length (owners_on d x i) in
+    let g : at + 3 * w ≡ L = omega (arith, length_owners_on d x i) in
+    let g₁ : at + 3 * w + 1 ≡ suc L = omega (arith, length_owners_on d x i) in
+    let g₂ : at + 3 * w + 2 ≡ suc (suc L) = omega (arith, length_owners_on d x i) in
+    rw (e, g₁, g₂, g, add-one) (sym (sets_append l at (owners_on d x i) (d ∷ x ∷ i ∷ [])))
+
+-- the same where the three numbers are pasted as one part
+pub owners_pasted : (l o ys : List ℕ) (at d x i w k : ℕ) → o ≡ sets l at (owners_on d x i) → w ≡ i → at + 3 * w + k ≤ length o → k ≡ 3 → ys ≡ d ∷ x ∷ i ∷ []
     → put_mid (at + 3 * w) k o ys ≡ sets l at (owners_on d x (i + 1))
 unfolding owners_on
-owners_step l o ys at d x i w k e f room three is =
+owners_pasted l o ys at d x i w k e f room three is =
     let g : at + 3 * w ≡ at + length (owners_on d x i) = omega (arith, length_owners_on d x i) in
     put_mid-paste (at + 3 * w) k o ys ys (length ys) refl (ap length is ∙ sym three) refl
     ∙ ap (λ (r : List ℕ). take (at + 3 * w) o ++ r ++ drop (at + 3 * w + length ys) o) (take-length ys)

@@ -9,7 +9,7 @@ use Rattle.dof_numbering.specs.declared.Dimension.TheVariants.{Vertex, Edge, Cel
 use Rattle.dof_numbering.specs.contracts.Dimension.{the_type}
 use Rattle.dof_numbering.specs.DofWalk.{dimension_number}
 use Rattle.dof_numbering.specs.Numbering.{owners_on}
-use Rattle.dof_numbering.proofs.Walk.{owners_step}
+use Rattle.dof_numbering.proofs.Walk.{owners_pasted}
 use borrow.Author.Rules.{rules}
 use Rattle.dof_numbering.proofs.write_owners.Goals as goal
 
@@ -23,4 +23,4 @@ unfolding owners_on
 loop-place-init c = (search rules, search rules, refl)
 
 pub loop-place-preserved : goal.loop-place-preserved
-loop-place-preserved c = (search rules, search rules, owners_step _ _ _ _ _ _ _ _ _ c.loop-place.invariant.2 c.wide.ensures (omega arith) (omega arith) (c.copy_from_slice.ensures.after ∙ ap (λ (d : ℕ). d ∷ c.args.x ∷ c.loop-place.place ∷ []) (number_is c.args.dimension)))
+loop-place-preserved c = (search rules, search rules, owners_pasted _ _ _ _ _ _ _ _ _ c.loop-place.invariant.2 c.wide.ensures (omega arith) (omega arith) (c.copy_from_slice.ensures.after ∙ ap (λ (d : ℕ). d ∷ c.args.x ∷ c.loop-place.place ∷ []) (number_is c.args.dimension)))

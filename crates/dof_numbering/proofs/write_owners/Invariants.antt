@@ -1,4 +1,4 @@
--- `dof_numbering::write_owners` meets its contract. The invariant: the first `place` records are stored (`sets`); a turn is `owners_step`. Assumes nothing.
+-- `dof_numbering::write_owners` meets its contract. The invariant: the first `place` records are stored (`sets`); a turn is `owners_pasted`. Assumes nothing.
 use Prim.Native.Nat.{◌≤◌}
 use mathlib.Core.Path.{◌≡◌}
 use lib.ListN.{length}
