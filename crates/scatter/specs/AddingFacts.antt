@@ -17,7 +17,12 @@ use Rattle.lists.specs.Range.{range, length_range, flat_map_below, flat_map_plac
 use Rattle.lists.specs.Fold.{upto, upto_keeps, upto_ext, Folded, folded_turn}
 use Rattle.lists.specs.Places.{in_row}
 use Rattle.scatter.specs.Adding.{add_at, add_local, local_rows, local_columns, local_values}
+use Rattle.function.specs.Elements.{most_dim}
 use Rattle.scatter.specs.Entries.{entry_at, AddFits, ColumnFits, add_row, add_column, add_trial}
+
+-- entry (i,j) is among the hundred, and so is (j,i)
+pub in_hundred : {m i j : ℕ} → m ≤ most_dim → i < m → j < most_dim → (j + m * i < 100) × (i + m * j < 100)
+in_hundred {m} {i} {j} hm hi hj = omega (arith, in_row m most_dim i (omega arith), in_row m most_dim j hj)
 
 -- ---- the matrix
 
