@@ -6,11 +6,12 @@ use Rattle.lists.specs.Refusals.{check, refusal, Answers, answers, refusal_first
 use Rattle.refusals.specs.declared.Refusal.{Refusal}
 use Rattle.refusals.specs.Numbers.{number_of, number_nonzero}
 use Rattle.numbers.specs.Ranges.{within_high}
+use Rattle.grid.specs.declared.Sizes.{Sizes}
 use Rattle.grid.specs.Cells.{distinct}
 use Rattle.grid.specs.CellsFacts.{before_most}
 use Rattle.grid.specs.Rows.{rows_of, cell_in}
 use Rattle.grid.specs.RowsFacts.{Padded, length_rows, cell_rows, rows_below, rows_padded}
-use Rattle.grid.specs.Mesh.{most_cells, Mesh, corners, cells_of, mesh_checks}
+use Rattle.grid.specs.Mesh.{most_cells, Mesh, mesh_with, corners, cells_of, mesh_checks}
 use Rattle.grid.specs.Facts.{Fine, vertices_shaped}
 use Rattle.grid.specs.KindsFacts.{Kinded, kinds_sum, before_cells}
 use Rattle.cells_by_key.specs.Groups.{Below}
@@ -112,6 +113,11 @@ module _ {m : Mesh} (f : Fine m) {rows : List ℕ} (are : rows ≡ rows_of m.ver
 
   pub patterns_are : patterns_in m.vertices m.cells rows ≡ patterns_right m
   patterns_are = mesh_patterns m m.vertices rows cells_in
+
+-- check 7 does not read the edges
+pub patterns_bare : (s : Sizes) (ks vs es : List ℕ) → patterns_right (mesh_with s ks vs []) ≡ patterns_right (mesh_with s ks vs es)
+unfolding patterns_right corners
+patterns_bare s ks vs es = refl
 
 -- ---- all checks
 
