@@ -3,8 +3,6 @@ use Rattle.std.specs.Prelude.{ℕ, ◌+◌, ◌*◌, ◌<◌, ◌≤◌, ◌≡�
 use Rattle.std.proofs.Common.{mul-le-mul, mul-le-mul_right, arith, sym, ap, subst, ◌∙◌}
 use Rattle.lists.specs.Bool.{every, and_left, and_right}
 use Rattle.lists.specs.Refusals.{check, refusal, Answers, answers, refusal_first, refusal_rest}
-use Rattle.refusals.specs.declared.Refusal.{Refusal}
-use Rattle.refusals.specs.Numbers.{number_of, number_nonzero}
 use Rattle.numbers.specs.Ranges.{within_high}
 use Rattle.grid.specs.declared.Sizes.{Sizes}
 use Rattle.grid.specs.Cells.{distinct}
@@ -122,9 +120,9 @@ patterns_bare s ks vs es = refl
 -- ---- all checks
 
 -- checks 1 to 3 turn the mesh down
-pub mesh_fails : (x : Planning) (l : Lists) (v : Refusal) → number_of v ≡ refusal (mesh_checks x.mesh) → number_of v ≡ plan_refusal x l
+pub mesh_fails : (x : Planning) (l : Lists) (v : ℕ) → v ≡ refusal (mesh_checks x.mesh) → (v ≡ 0 → ⊥) → v ≡ plan_refusal x l
 unfolding plan_refusal
-mesh_fails x l v e = refusal_first (mesh_checks x.mesh) _ (number_of v) e (number_nonzero v)
+mesh_fails x l v e h = refusal_first (mesh_checks x.mesh) _ v e h
 
 -- they pass, and 4 to 8 answer
 pub mesh_passes : (x : Planning) (l : Lists) {v : ℕ} → 0 ≡ refusal (mesh_checks x.mesh)

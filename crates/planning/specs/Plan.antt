@@ -3,8 +3,6 @@ use Rattle.std.specs.Prelude.{ℕ, zero, suc, ◌*◌, ◌≤◌, ◌≡◌, tru
 use Rattle.std.proofs.Common.{arith, ◌∙◌, eqb-true}
 use Rattle.std.proofs.Math.Path.{refl}
 use Rattle.lists.specs.Bool.{every_at}
-use Rattle.refusals.specs.declared.Refusal.{Refusal}
-use Rattle.refusals.specs.Numbers.{number_of, number_nonzero}
 use Rattle.numbers.specs.Ranges.{within_high}
 use Rattle.grid.specs.Mesh.{most_cells, Mesh, corners, sizes_of, cells_of}
 use Rattle.grid.specs.Facts.{vertices_shaped, edges_shaped}
@@ -150,9 +148,9 @@ module _ {x : Planning} {l : Lists} (ok : Accepted x l) where
 
 -- ---- the two ways the call ends
 
-pub plan_refused : (x : Planning) (l : Lists) (v : Refusal) → number_of v ≡ plan_refusal x l → (refused (number_of v) ≡ plan x l) × (l ≡ plan_lists x l)
+pub plan_refused : (x : Planning) (l : Lists) (v : ℕ) → v ≡ plan_refusal x l → (v ≡ 0 → ⊥) → (refused v ≡ plan x l) × (l ≡ plan_lists x l)
 unfolding plan plan_lists
-plan_refused x l v e = rw (← e) (go (number_of v) (number_nonzero v))
+plan_refused x l v e h = rw (← e) (go v h)
   where
     go : (v : ℕ) → (v ≡ 0 → ⊥) → (refused v ≡ plan_answer v (plan_numbers x)) × (l ≡ unless_refused v (written_lists x l) l)
     go zero h = absurd (h refl)

@@ -3,6 +3,7 @@ use mathlib.Core.Path.{sym, ◌∙◌}
 use Rattle.std.proofs.lemmas.Result.{err_from_is_err_and}
 use Rattle.lists.specs.Bool.{turned, passed}
 use Rattle.lists.specs.Refusals.{accepted, refused, ◌then◌}
+use Rattle.refusals.specs.Numbers.{number_nonzero}
 use Rattle.grid.specs.Facts.{fine}
 use Rattle.planning.specs.Facts.{mesh_fails, mesh_passes, kinds_few, both_right, lengths_by_lem, dims_by, places_by, places_few_by}
 use Rattle.planning.proofs.checks.plan_checked.Goals as goal
@@ -10,7 +11,7 @@ use Rattle.planning.proofs.checks.plan_checked.Goals as goal
 pub returns-in_err-mesh_refusal : goal.returns-in_err-mesh_refusal
 returns-in_err-mesh_refusal c =
     let p = err_from_is_err_and c.from_residual.result c.from_residual.ensures.1 in
-    rw (p.1, p.2) (mesh_fails _ _ _ c.in_err-mesh_refusal.ensures)
+    rw (p.1, p.2) (mesh_fails _ _ _ c.in_err-mesh_refusal.ensures (number_nonzero _))
 
 pub count_kind-triangles-requires : goal.count_kind-triangles-requires
 count_kind-triangles-requires c = (kinds_few _ (fine _ (sym c.in_ok-mesh_refusal.ensures))).0
