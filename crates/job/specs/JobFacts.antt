@@ -78,13 +78,13 @@ take_twos s k m (suc n) h = ⊎_elim (λ l. shorter l (take_twos s k m n (omega 
 
 module _ (s : List ℕ) (k n : ℕ) (list : List ℕ) where
   -- a part of it is lent, and read
-  front_part : n < length list → {part : List ℕ} → part ≡ twos s k (length (take n list)) → part ++ drop n list ≡ front (twos s k n) list
+  pub front_part : n < length list → {part : List ℕ} → part ≡ twos s k (length (take n list)) → part ++ drop n list ≡ front (twos s k n) list
   unfolding front
   front_part h e =
       rw (e, length-take-le n list (omega arith), take_all (length list) (twos s k n) (omega (arith, length_twos s k n)), length_twos s k n)
 
   -- the whole of it
-  front_whole : length list ≤ n → twos s k (length list) ≡ front (twos s k n) list
+  pub front_whole : length list ≤ n → twos s k (length list) ≡ front (twos s k n) list
   unfolding front
   front_whole h = rw (take_twos s k (length list) n h, length_twos s k n, drop_of_length-le list {i = n} h, append-nil)
 
