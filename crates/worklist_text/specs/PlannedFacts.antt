@@ -111,7 +111,7 @@ module _ {C n : ℕ} (count : n ≡ C) (few : C ≤ most_worklist_cells) where
 -- ---- lists whose lengths are made with dims cut to the most
 
 -- they fit
-few_pairs : (C : ℕ) → C ≤ most_worklist_cells → C * C ≤ most_worklist_cells * most_worklist_cells
+pub few_pairs : (C : ℕ) → C ≤ most_worklist_cells → C * C ≤ most_worklist_cells * most_worklist_cells
 few_pairs C h = mul-le-mul h h
 
 -- as many of m zeros are lent
