@@ -5,8 +5,8 @@ mod text;
 mod worklist;
 
 use arrayvec::ArrayString;
-pub use text::refused_text;
-pub use worklist::{MOST_TEXT, worklist_text};
+pub use text::{refused_text, write_refused};
+pub use worklist::{MOST_TEXT, worklist_text, write_worklist};
 
 // The text: no work list of at most 64 cells has a longer one.
 pub type Text = ArrayString<MOST_TEXT>;

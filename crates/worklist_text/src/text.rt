@@ -27,25 +27,32 @@ fn push_line(text: &mut Text, item: WorkRecord)
     push_number(text, item.trial, "\n");
 }
 
-// The lines of a work list.
-pub(crate) fn lines_text(work: &[u32]) -> Text
+// Writes the lines of a work list, whatever stood in the text.
+pub(crate) fn write_lines(text: &mut Text, work: &[u32])
     requires { length (lines_of work.now) ≤ most_text }
-    ensures { result.bytes ≡ lines_of work.now }
+    ensures { text.new.bytes ≡ lines_of work.now }
 {
-    let mut text = Text::new();
+    text.clear();
     for record in work.chunks_exact(WIDTH) {
-        push_line(&mut text, record_at(record, 0));
+        push_line(text, record_at(record, 0));
     }
-    text
 }
 
-// `refused n`, of a refusal's number: a job's refusal and planning's are two types. (`write!` of one's Display is no plainer: no contract says
-// what that writes.)
+// Writes `refused n`, whatever stood in the text, of a refusal's number: a job's refusal and planning's are two types. (`write!` of one's Display is
+// no plainer: no contract says what that writes.)
+pub fn write_refused(text: &mut Text, n: u32)
+    ensures { text.new.bytes ≡ refused_line n }
+{
+    text.clear();
+    text.push_str("refused ");
+    push_number(text, n, "\n");
+}
+
+// `refused n`, in a text of its own.
 pub fn refused_text(n: u32) -> Text
     ensures { result.bytes ≡ refused_line n }
 {
     let mut text = Text::new();
-    text.push_str("refused ");
-    push_number(&mut text, n, "\n");
+    write_refused(&mut text, n);
     text
 }

@@ -9,7 +9,7 @@ ghost use Rattle.worklist_text.specs.Text.{numbers_planning, worklist};
 ghost use Rattle.worklist_text.specs.PlannedText.{right_text};
 
 use crate::Text;
-use crate::text::{lines_text, refused_text};
+use crate::text::{write_lines, write_refused};
 use cell_pairs::WIDTH;
 use function::{Element, Elements, MOST_DIM};
 use grid::{Mesh, Sizes};
@@ -39,10 +39,10 @@ fn dof_places(cells: u32, element: Element) -> usize
     cells as usize * element.dim(TRIANGLE).min(MOST_DIM)
 }
 
-// The text of a planned mesh of triangles, with lists of the right lengths: the work list's lines, or what is refused.
-fn mesh_text(mesh: Mesh, assembly: Assembly) -> Text
+// Writes the text of a planned mesh of triangles, with lists of the right lengths: the work list's lines, or what is refused.
+fn write_mesh(text: &mut Text, mesh: Mesh, assembly: Assembly)
     requires { (mesh.sizes.cells ≤ most_worklist_cells) × (mesh.kinds.now ≡ triangles mesh.sizes.cells) }
-    ensures { result.bytes ≡ right_text (planning_with (mesh_lent mesh.entry) assembly) }
+    ensures { text.new.bytes ≡ right_text (planning_with (mesh_lent mesh.entry) assembly) }
 {
     let cells = mesh.sizes.cells as usize;
     let rows = dof_places(mesh.sizes.cells, assembly.test.triangle);
@@ -65,16 +65,16 @@ fn mesh_text(mesh: Mesh, assembly: Assembly) -> Text
         work: &mut work[..WIDTH * (cells * cells)],
     };
     match plan(mesh, assembly, &mut lists) {
-        Ok(_) => lines_text(lists.work),
-        Err(refusal) => refused_text(refusal.number()),
+        Ok(_) => write_lines(text, lists.work),
+        Err(refusal) => write_refused(text, refusal.number()),
     }
 }
 
 // The same for the numbers of a job with one bare term of kind 0, whose vertices and edges stand at the front of these lists.
-fn numbers_text(job: JobNumbers, vertex_list: &[u32], edge_list: &[u32]) -> Text
+fn write_numbers(text: &mut Text, job: JobNumbers, vertex_list: &[u32], edge_list: &[u32])
     requires few { job.cells ≤ most_worklist_cells }
     requires room { (3 * most_worklist_cells ≤ length vertex_list.now) × (3 * most_worklist_cells ≤ length edge_list.now) }
-    ensures { result.bytes ≡ right_text (numbers_planning job (take (3 * job.cells) vertex_list.now) (take (3 * job.cells) edge_list.now)) }
+    ensures { text.new.bytes ≡ right_text (numbers_planning job (take (3 * job.cells) vertex_list.now) (take (3 * job.cells) edge_list.now)) }
 {
     let cells = job.cells as usize;
     let kinds = [TRIANGLE; CELLS];
@@ -98,19 +98,28 @@ fn numbers_text(job: JobNumbers, vertex_list: &[u32], edge_list: &[u32]) -> Text
             second: Term::Bare(0),
         },
     };
-    mesh_text(mesh, assembly)
+    write_mesh(text, mesh, assembly);
 }
 
-// What `worklist` prints for these bytes.
-pub fn worklist_text(bytes: &[u8]) -> Text
-    ensures { result.bytes ≡ worklist bytes.now }
+// Writes what `worklist` prints for these bytes, whatever stood in the text.
+pub fn write_worklist(text: &mut Text, bytes: &[u8])
+    ensures { text.new.bytes ≡ worklist bytes.now }
 {
     // Of fixed size, for the most cells that a job may have: a `Vec` may find no memory, and there is a text for all bytes.
     let mut vertex_list = [0; 3 * CELLS];
     let mut edge_list = [0; 3 * CELLS];
     let limit = Some(MOST_WORKLIST_CELLS);
     match read_job(bytes, limit, &mut vertex_list, &mut edge_list) {
-        Ok(job) => numbers_text(job, &vertex_list, &edge_list),
-        Err(refusal) => refused_text(refusal.number()),
+        Ok(job) => write_numbers(text, job, &vertex_list, &edge_list),
+        Err(refusal) => write_refused(text, refusal.number()),
     }
+}
+
+// What `worklist` prints for these bytes, in a text of its own.
+pub fn worklist_text(bytes: &[u8]) -> Text
+    ensures { result.bytes ≡ worklist bytes.now }
+{
+    let mut text = Text::new();
+    write_worklist(&mut text, bytes);
+    text
 }

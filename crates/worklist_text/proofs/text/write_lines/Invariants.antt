@@ -5,7 +5,7 @@ use mathlib.Core.List.{flat_map}
 use Rattle.lists.specs.Range.{range}
 use Rattle.cell_pairs.specs.Records.{width, record_at}
 use Rattle.worklist_text.specs.Text.{line_of}
-use Rattle.worklist_text.proofs.text.lines_text.Given as goal
+use Rattle.worklist_text.proofs.text.write_lines.Given as goal
 
 abbrev pub invariant-loop-record : goal.invariant-loop-record
 invariant-loop-record l = record {

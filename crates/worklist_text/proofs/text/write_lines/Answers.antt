@@ -10,14 +10,14 @@ use Rattle.cell_pairs.specs.Records.{width, record_at}
 use Rattle.worklist_text.specs.Text.{line_of}
 use Rattle.worklist_text.specs.TextFacts.{record_next}
 use Rattle.worklist_text.specs.Lines.{lines_of}
-use Rattle.worklist_text.proofs.text.lines_text.Goals as goal
+use Rattle.worklist_text.proofs.text.write_lines.Goals as goal
 
 pub loop-record-init : goal.loop-record-init
 unfolding range flat_map
 loop-record-init c =
     let from = c.into_iter-record-iterator.ensures.into_iter_gives in
     let items = c.chunks_exact-record-items.ensures in
-    record { size = ap chunks_exact_size from ∙ items.size; rest = ap chunks_exact_rest from ∙ items.rest; room = omega arith; text = c.new-text.ensures }
+    record { size = ap chunks_exact_size from ∙ items.size; rest = ap chunks_exact_rest from ∙ items.rest; room = omega arith; text = c.clear.ensures }
 
 pub push_line-requires : goal.push_line-requires
 unfolding lines_of
