@@ -11,8 +11,8 @@ most_bytes = 20 + 12 * most_worklist_cells
 
 -- whatever the bytes that came, if so many did and those that are kept stand in the list, the text is theirs; such bytes there are, as the kept ones are
 -- among those that came and have room in the list; and no more came than are enough (`enough_text`)
-pub record Answers (bytes : List ℕ) (r : Answered) : Type 0 where
-  pub shown : (came : List ℕ) → length came ≡ r.came → take r.kept came ≡ take r.kept bytes → r.text.bytes ≡ worklist came
+pub record Answers (bytes text : List ℕ) (r : Answered) : Type 0 where
+  pub shown : (came : List ℕ) → length came ≡ r.came → take r.kept came ≡ take r.kept bytes → text ≡ worklist came
   pub among : r.kept ≤ r.came
   pub room : r.kept ≤ length bytes
   pub few : r.came ≤ enough_bytes (read_head (take r.kept bytes))

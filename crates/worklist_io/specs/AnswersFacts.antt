@@ -30,10 +30,10 @@ pub turned_down : (r : Result (Unit {0}) JobRefusal) (C n : ℕ) → told r ≡ 
 turned_down (Ok _) C n e large = absurd (omega (arith, e, size_refused C n large))
 turned_down (Err _) C n e large = refl
 
-module _ (bytes : List ℕ) (r : Answered) where
+module _ (bytes text : List ℕ) (r : Answered) where
   -- the first 7 are refused
   pub wrong_answers : {v : ℕ} → r.came ≤ 7 → r.came ≤ length bytes → r.kept ≡ r.came → head_number (read_head (take r.came bytes)) ≡ v → 0 < v
-      → r.text.bytes ≡ refused_line v → Answers bytes r
+      → text ≡ refused_line v → Answers bytes text r
   wrong_answers h room kept e wrong s =
       record {
         shown =
@@ -48,7 +48,7 @@ module _ (bytes : List ℕ) (r : Answered) where
 
   module _ {C : ℕ} (says : Says (read_head (take 7 bytes)) C) where
     -- they say C, and all are kept
-    pub small_answers : 7 ≤ r.came → r.came ≤ 20 + 12 * C → r.came ≤ length bytes → r.kept ≡ r.came → r.text.bytes ≡ worklist (take r.came bytes) → Answers bytes r
+    pub small_answers : 7 ≤ r.came → r.came ≤ 20 + 12 * C → r.came ≤ length bytes → r.kept ≡ r.came → text ≡ worklist (take r.came bytes) → Answers bytes text r
     small_answers h few room kept s =
         let front = take r.came bytes in
         let head : read_head front ≡ read_head (take 7 bytes) = sym (head_alone front) ∙ ap read_head (take-take 7 r.came bytes h) in
@@ -60,8 +60,8 @@ module _ (bytes : List ℕ) (r : Answered) where
         }
 
     -- they say more than 64 cells, and they alone are kept
-    pub large_answers : most_worklist_cells < C → 7 ≤ r.came → r.came ≤ 20 + 12 * C → 7 ≤ length bytes → r.kept ≡ 7 → r.text.bytes ≡ refused_line (size_refusal C r.came)
-        → Answers bytes r
+    pub large_answers : most_worklist_cells < C → 7 ≤ r.came → r.came ≤ 20 + 12 * C → 7 ≤ length bytes → r.kept ≡ 7 → text ≡ refused_line (size_refusal C r.came)
+        → Answers bytes text r
     large_answers large h few room kept s =
         record {
           shown =

@@ -22,4 +22,4 @@ pub returns-in-Err : goal.returns-in-Err
 returns-in-Err g c =
     let came = c.read_some-came in
     let said = refused_said _ (sym c.in-Err.ensures) in
-    wrong_answers _ _ (omega (arith, came.ensures)) (omega (arith, came.ensures)) refl said.0 said.1 (c.refused_text.ensures ∙ ap refused_line c.number.ensures)
+    wrong_answers _ _ _ (omega (arith, came.ensures)) (omega (arith, came.ensures)) refl said.0 said.1 (c.write_refused.ensures ∙ ap refused_line c.number.ensures)

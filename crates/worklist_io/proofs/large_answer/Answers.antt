@@ -11,4 +11,4 @@ unwrap_err-refusal-requires g c = turned_down _ _ _ c.check_size.ensures c.requi
 pub returns : goal.returns
 returns g c =
     let number = c.number.ensures ∙ ap told (sym c.unwrap_err-refusal.ensures) ∙ c.check_size.ensures in
-    large_answers _ _ c.requires.2 c.requires.0 (omega arith) (omega (arith, c.skip-came.ensures)) c.requires.1 refl (c.refused_text.ensures ∙ ap refused_line number)
+    large_answers _ _ _ c.requires.2 c.requires.0 (omega arith) (omega (arith, c.skip-came.ensures)) c.requires.1 refl (c.write_refused.ensures ∙ ap refused_line number)

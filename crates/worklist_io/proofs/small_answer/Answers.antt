@@ -7,5 +7,5 @@ pub returns : goal.returns
 returns g c =
     let more = c.read_some-came in
     let seven = length-take-le 7 c.args.bytes.now (omega (arith, c.told-bytes)) in
-    small_answers _ _ (says_still c.args.bytes.now _ (omega (arith, c.told-bytes)) c.requires.1) (omega arith) (omega (arith, more.ensures))
-    (simp length-append (omega (arith, more.ensures, seven))) refl c.worklist_text-text.ensures
+    small_answers _ _ _ (says_still c.args.bytes.now _ (omega (arith, c.told-bytes)) c.requires.1) (omega arith) (omega (arith, more.ensures))
+    (simp length-append (omega (arith, more.ensures, seven))) refl c.write_worklist.ensures
