@@ -9,7 +9,8 @@ use integrands::integrand_right;
 use lent_numbers::{DistantNumbers, LocalForm, Side, TouchingNumbers};
 use recorded::{Forms, Words, bits_of};
 use refusals::Refusal;
-use std::io;
+use std::alloc::AllocError;
+use std::io::Read;
 
 /// The points of a touching pair, or of the two cells of a distant one.
 #[derive(Clone, Copy)]
@@ -34,14 +35,14 @@ pub struct Case {
 }
 
 impl Case {
-    pub fn read(words: &mut Words<'_>) -> io::Result<Self> {
+    pub fn read<R: Read>(words: &mut Words<R>) -> Result<Self, AllocError> {
         words.finish_word();
-        let touching = words.digit()? == 0;
-        let forms = Forms::read(words)?;
-        let test_dim = usize::from(words.digit()?);
-        let trial_dim = usize::from(words.digit()?);
-        let test_points = usize::from(words.digit()?);
-        let trial_points = usize::from(words.digit()?);
+        let touching = words.digit() == 0;
+        let forms = Forms::read(words);
+        let test_dim = usize::from(words.digit());
+        let trial_dim = usize::from(words.digit());
+        let test_points = usize::from(words.digit());
+        let trial_points = usize::from(words.digit());
         let [
             test_weights,
             trial_weights,
@@ -51,7 +52,7 @@ impl Case {
             test_geometry,
             trial_geometry,
             entries,
-        ] = words.word()?.to_be_bytes().map(usize::from);
+        ] = words.word().to_be_bytes().map(usize::from);
         Ok(Case {
             points: if touching {
                 Points::Touching(test_points)
@@ -62,7 +63,7 @@ impl Case {
                 }
             },
             local: LocalForm {
-                integrand: forms.read_factors(words)?,
+                integrand: forms.read_factors(words),
                 test_dim,
                 trial_dim,
             },

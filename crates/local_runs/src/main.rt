@@ -6,7 +6,8 @@ mod cases;
 
 use crate::cases::Case;
 use recorded::Words;
-use std::{fs, io};
+use std::fs::File;
+use std::io::{self, BufReader};
 
 // The groups of cases, in the order of the file, and how many each has.
 const GROUPS: [(&str, usize); 12] = [
@@ -30,8 +31,8 @@ const CASES: usize = 254;
 // A case is named by its number, which is its line in the file, from 1.
 fn main(rt: HostRuntime) -> io::Result<()> {
     let alloc = rt.alloc();
-    let text = fs::read_to_string(&rt, "cases")?;
-    let mut words = Words::new(text.as_str(), alloc);
+    let file = BufReader::new(alloc, File::open(&rt, "cases")?)?;
+    let mut words = Words::new(file, alloc);
     let mut numbers = 1..=CASES;
     // A list for its length: that a count by `+= 1` fits would need an invariant over both loops, and `len` needs none.
     let mut differing = Vec::new(alloc);
@@ -48,5 +49,6 @@ fn main(rt: HostRuntime) -> io::Result<()> {
         println!(rt; "the file has more cases")?;
     }
     let differ = differing.len();
-    println!(rt; "{CASES} cases, {differ} differ")
+    println!(rt; "{CASES} cases, {differ} differ")?;
+    words.finish()
 }

@@ -2,17 +2,32 @@
 use lent_numbers::{DistantNumbers, Side, TouchingNumbers};
 use planning::Assembly;
 use recorded::{Head, MeshVecs, PlanLengths, Recorded, Words};
-use std::io;
+use std::alloc::AllocError;
+use std::io::Read;
 
-/// The geometry of points and the pool of other numbers, of which lists are lent.
-#[derive(Clone, Copy)]
-pub struct Numbers<'a> {
-    pub geometry: &'a [f64],
-    pub pool: &'a [f64],
-}
+/// How many floats there are of geometry, before the pool of other numbers.
+pub const GEOMETRY: usize = 400;
+
+/// How many numbers a record of places has: one more than there are lists.
+pub const PLACE_NUMBERS: usize = 8;
+
+/// The longest lists that a case has: those of 24 cells. A list that is longer in the file ends there.
+pub const MOST: PlanLengths = PlanLengths {
+    cell_vertices: 72,
+    test_dofs: 240,
+    trial_dofs: 240,
+    colours: 24,
+    test_owners: 720,
+    trial_owners: 720,
+    work: 1728,
+};
+
+const MOST_PLACES: usize = 4608;
+
+const MOST_ENTRIES: usize = 768;
 
 /// A number for each list that a distant pair is lent: how long it is, or where it begins.
-#[derive(Clone, Copy, PartialEq)]
+#[derive(Clone, Copy)]
 struct PerList {
     test_weights: usize,
     trial_weights: usize,
@@ -24,16 +39,16 @@ struct PerList {
 }
 
 impl PerList {
-    fn read(words: &mut Words<'_>) -> io::Result<Self> {
-        Ok(PerList {
-            test_weights: usize::read(words)?,
-            trial_weights: usize::read(words)?,
-            test_table: usize::read(words)?,
-            trial_table: usize::read(words)?,
-            kernel: usize::read(words)?,
-            test_geometry: usize::read(words)?,
-            trial_geometry: usize::read(words)?,
-        })
+    fn read<R: Read>(words: &mut Words<R>) -> Self {
+        PerList {
+            test_weights: usize::read(words),
+            trial_weights: usize::read(words),
+            test_table: usize::read(words),
+            trial_table: usize::read(words),
+            kernel: usize::read(words),
+            test_geometry: usize::read(words),
+            trial_geometry: usize::read(words),
+        }
     }
 }
 
@@ -56,65 +71,67 @@ struct Touching {
     geometry: usize,
 }
 
-/// Where the lists that a pair is lent begin: geometry in the geometry, all else in the pool. A touching pair's weights are its test weights.
-#[derive(Clone, Copy, PartialEq)]
-pub struct Places {
-    begin: PerList,
-}
-
-impl Places {
-    // How many numbers a record of the file has: one more than there are lists.
-    const NUMBERS: u32 = 8;
-}
-
-impl Recorded for Places {
-    fn read(words: &mut Words<'_>) -> io::Result<Self> {
-        let places = Places {
-            begin: PerList::read(words)?,
-        };
-        words.number()?;
-        Ok(places)
-    }
-}
-
-// The n numbers of a list from a place on; none where they are not there, which an add turns down.
-fn part(list: &[f64], place: usize, n: usize) -> &[f64] {
-    list.get(place..)
-        .and_then(|rest| rest.get(..n))
-        .unwrap_or(&[])
+/// The geometry of points with the pool of other numbers behind it, and the places of a case in them, a record for each pair.
+#[derive(Clone, Copy)]
+pub struct Numbers<'a> {
+    pub floats: &'a [f64],
+    pub places: &'a [usize],
 }
 
 impl<'a> Numbers<'a> {
-    fn touching(self, lengths: Touching, places: Places) -> TouchingNumbers<'a> {
-        let begin = places.begin;
-        TouchingNumbers {
-            points: lengths.points,
-            weights: part(self.pool, begin.test_weights, lengths.weights),
-            test_table: part(self.pool, begin.test_table, lengths.test_table),
-            trial_table: part(self.pool, begin.trial_table, lengths.trial_table),
-            kernel: part(self.pool, begin.kernel, lengths.kernel),
-            test_geometry: part(self.geometry, begin.test_geometry, lengths.geometry),
-            trial_geometry: part(self.geometry, begin.trial_geometry, lengths.geometry),
+    // Where the lists of the pair at a position begin, zeros where the places end. A touching pair's weights are its test weights.
+    fn begin(self, position: u32) -> PerList {
+        let first = PLACE_NUMBERS * position as usize;
+        let place = |j| self.places.get(first + j).copied().unwrap_or(0);
+        PerList {
+            test_weights: GEOMETRY + place(0),
+            trial_weights: GEOMETRY + place(1),
+            test_table: GEOMETRY + place(2),
+            trial_table: GEOMETRY + place(3),
+            kernel: GEOMETRY + place(4),
+            test_geometry: place(5),
+            trial_geometry: place(6),
         }
     }
 
-    fn distant(self, distant: Distant, places: Places) -> DistantNumbers<'a> {
-        let begin = places.begin;
+    // The n floats from a place on; all of them where they are not there, which an add turns down.
+    fn part(self, place: usize, n: usize) -> &'a [f64] {
+        self.floats
+            .get(place..)
+            .and_then(|rest| rest.get(..n))
+            .unwrap_or(self.floats)
+    }
+
+    fn touching(self, lengths: Touching, position: u32) -> TouchingNumbers<'a> {
+        let begin = self.begin(position);
+        TouchingNumbers {
+            points: lengths.points,
+            weights: self.part(begin.test_weights, lengths.weights),
+            test_table: self.part(begin.test_table, lengths.test_table),
+            trial_table: self.part(begin.trial_table, lengths.trial_table),
+            kernel: self.part(begin.kernel, lengths.kernel),
+            test_geometry: self.part(begin.test_geometry, lengths.geometry),
+            trial_geometry: self.part(begin.trial_geometry, lengths.geometry),
+        }
+    }
+
+    fn distant(self, distant: Distant, position: u32) -> DistantNumbers<'a> {
+        let begin = self.begin(position);
         let lengths = distant.lengths;
         DistantNumbers {
             test: Side {
                 points: distant.test_points,
-                weights: part(self.pool, begin.test_weights, lengths.test_weights),
-                table: part(self.pool, begin.test_table, lengths.test_table),
-                geometry: part(self.geometry, begin.test_geometry, lengths.test_geometry),
+                weights: self.part(begin.test_weights, lengths.test_weights),
+                table: self.part(begin.test_table, lengths.test_table),
+                geometry: self.part(begin.test_geometry, lengths.test_geometry),
             },
             trial: Side {
                 points: distant.trial_points,
-                weights: part(self.pool, begin.trial_weights, lengths.trial_weights),
-                table: part(self.pool, begin.trial_table, lengths.trial_table),
-                geometry: part(self.geometry, begin.trial_geometry, lengths.trial_geometry),
+                weights: self.part(begin.trial_weights, lengths.trial_weights),
+                table: self.part(begin.trial_table, lengths.trial_table),
+                geometry: self.part(begin.trial_geometry, lengths.trial_geometry),
             },
-            kernel: part(self.pool, begin.kernel, lengths.kernel),
+            kernel: self.part(begin.kernel, lengths.kernel),
         }
     }
 }
@@ -126,7 +143,8 @@ pub struct Case {
     // A number, as the file has it: one that no check has is no `Refusal`, and differs all the same.
     pub refusal: Option<u32>,
     pub lengths: PlanLengths,
-    pub pairs: u32,
+    // How many numbers the places are.
+    pub places: usize,
     pub test_owners: usize,
     pub trial_owners: usize,
     pub matrix: usize,
@@ -137,57 +155,63 @@ pub struct Case {
 }
 
 impl Case {
-    pub fn read(words: &mut Words<'_>) -> io::Result<Self> {
-        let head = Head::read(words)?;
-        let test_points = usize::from(words.digit()?);
-        let trial_points = usize::from(words.digit()?);
-        let points = usize::from(words.digit()?);
-        let refusal = match words.digit()? {
+    pub fn read<R: Read>(words: &mut Words<R>) -> Result<Self, AllocError> {
+        let head = Head::read(words);
+        let test_points = usize::from(words.digit());
+        let trial_points = usize::from(words.digit());
+        let points = usize::from(words.digit());
+        let refusal = match words.digit() {
             0 => None,
             number => Some(u32::from(number)),
         };
-        let assembly = head.read_assembly(words)?;
-        let lengths = PlanLengths::read(words)?;
-        let pairs = u32::read(words)? / Places::NUMBERS;
-        let test_owners = usize::read(words)?;
-        let trial_owners = usize::read(words)?;
-        let matrix = usize::read(words)?;
-        let entries = usize::read(words)?;
+        let assembly = head.read_assembly(words);
+        let lengths = PlanLengths::read(words);
+        let places = usize::read(words);
+        let test_owners = usize::read(words);
+        let trial_owners = usize::read(words);
+        let matrix = usize::read(words);
+        let entries = usize::read(words);
         let distant = Distant {
             test_points,
             trial_points,
-            lengths: PerList::read(words)?,
+            lengths: PerList::read(words),
         };
         let touching = Touching {
             points,
-            weights: usize::read(words)?,
-            test_table: usize::read(words)?,
-            trial_table: usize::read(words)?,
-            kernel: usize::read(words)?,
-            geometry: usize::read(words)?,
+            weights: usize::read(words),
+            test_table: usize::read(words),
+            trial_table: usize::read(words),
+            kernel: usize::read(words),
+            geometry: usize::read(words),
         };
         let kinds = vec![in words.alloc; TRIANGLE; head.sizes.cells as usize]?;
+        let cell_vertices = lengths.cell_vertices.min(MOST.cell_vertices);
         Ok(Case {
             assembly,
             refusal,
             lengths,
-            pairs,
+            places,
             test_owners,
             trial_owners,
             matrix,
-            entries,
+            entries: entries.min(MOST_ENTRIES),
             distant,
             touching,
-            mesh: MeshVecs::read(words, head.sizes, kinds, lengths.cell_vertices)?,
+            mesh: MeshVecs::read(words, head.sizes, kinds, cell_vertices)?,
         })
     }
 
-    pub fn touching<'a>(&self, numbers: Numbers<'a>, places: Places) -> TouchingNumbers<'a> {
-        numbers.touching(self.touching, places)
+    /// The next places.
+    pub fn read_places<R: Read>(&self, words: &mut Words<R>) -> Result<Vec<usize>, AllocError> {
+        words.list(self.places.min(MOST_PLACES))
     }
 
-    pub fn distant<'a>(&self, numbers: Numbers<'a>, places: Places) -> DistantNumbers<'a> {
-        numbers.distant(self.distant, places)
+    pub fn touching<'a>(&self, numbers: Numbers<'a>, position: u32) -> TouchingNumbers<'a> {
+        numbers.touching(self.touching, position)
+    }
+
+    pub fn distant<'a>(&self, numbers: Numbers<'a>, position: u32) -> DistantNumbers<'a> {
+        numbers.distant(self.distant, position)
     }
 }
 

@@ -6,79 +6,75 @@
 mod cases;
 mod recorded_runs;
 
-use crate::cases::{Case, Numbers};
+use crate::cases::{Case, GEOMETRY, MOST, Numbers};
 use crate::recorded_runs::Planning;
 use planning::plan;
 use plans::PlanNumbers;
-use recorded::{PlanVecs, Words};
-use std::{fs, io};
+use recorded::{PlanVecs, Words, front};
+use std::alloc::AllocError;
+use std::fs::File;
+use std::io::{self, BufReader, Read};
 
-// How many floats there are of geometry, and in the pool.
-const GEOMETRY: usize = 400;
-
-const POOL: usize = 512;
-
-// The first n numbers of a list, or all where they are fewer.
-fn front(list: &[u32], n: usize) -> &[u32] {
-    list.get(..n).unwrap_or(list)
-}
+// How many floats there are, of geometry and in the pool.
+const FLOATS: usize = GEOMETRY + 512;
 
 // Whether an accepted planning and both its runs give what is recorded.
-fn planning_agrees(
-    words: &mut Words<'_>,
+fn planning_agrees<R: Read>(
+    words: &mut Words<R>,
     case: &Case,
     counts: PlanNumbers,
     lists: &PlanVecs,
-    numbers: Numbers<'_>,
-) -> io::Result<bool> {
-    let same = words.is_next(&[counts.rows, counts.columns, counts.distant, counts.touching])?
-        & words.is_next(&lists.test_dofs)?
-        & words.is_next(&lists.trial_dofs)?
-        & words.is_next(&lists.test_colours)?
-        & words.is_next(&lists.trial_colours)?
-        & words.is_next(front(&lists.test_owners, case.test_owners))?
-        & words.is_next(front(&lists.trial_owners, case.trial_owners))?
-        & words.is_next(&lists.work)?;
-    let places = words.list(case.pairs as usize)?;
+    floats: &[f64],
+) -> Result<bool, AllocError> {
+    let lengths = case.lengths;
+    let same = words.is_next(&[counts.rows, counts.columns, counts.distant, counts.touching])
+        & words.is_next(front(&lists.test_dofs, lengths.test_dofs))
+        & words.is_next(front(&lists.trial_dofs, lengths.trial_dofs))
+        & words.is_next(front(&lists.test_colours, lengths.colours))
+        & words.is_next(front(&lists.trial_colours, lengths.colours))
+        & words.is_next(front(&lists.test_owners, case.test_owners))
+        & words.is_next(front(&lists.trial_owners, case.trial_owners))
+        & words.is_next(front(&lists.work, lengths.work));
+    let places = case.read_places(words)?;
     let planning = Planning {
         case,
         counts,
-        plan: lists.plan(&case.mesh.kinds),
-        places: &places,
-        numbers,
+        plan: lists.plan(lengths, &case.mesh.kinds),
+        numbers: Numbers {
+            floats,
+            places: &places,
+        },
     };
-    Ok(
-        same & planning.entries_agree(words)?
-            & planning.matrix_agrees(words)?
-            & case.refusal.is_none(),
-    )
+    let entries = planning.entries_agree(words)?;
+    let dense = planning.matrix_agrees(words)?;
+    Ok(same & entries & dense & case.refusal.is_none())
 }
 
 // Reads a case whole and replays it.
-fn case_agrees(words: &mut Words<'_>, numbers: Numbers<'_>) -> io::Result<bool> {
+fn case_agrees<R: Read>(words: &mut Words<R>, floats: &[f64]) -> Result<bool, AllocError> {
     let case = Case::read(words)?;
-    let mut lists = PlanVecs::new(words.alloc, case.lengths)?;
-    match plan(case.mesh.mesh(), case.assembly, &mut lists.lent()) {
-        Ok(counts) => planning_agrees(words, &case, counts, &lists, numbers),
+    let mut lists = PlanVecs::new(words.alloc, MOST)?;
+    match plan(
+        case.mesh.mesh(),
+        case.assembly,
+        &mut lists.lent(case.lengths),
+    ) {
+        Ok(counts) => planning_agrees(words, &case, counts, &lists, floats),
         Err(refusal) => Ok(Some(refusal.number()) == case.refusal),
     }
 }
 
 // The file: how many cases, geometry, pool, then the cases. Each that differs is named by its number, from 1.
 fn main(rt: HostRuntime) -> io::Result<()> {
-    let text = fs::read_to_string(&rt, "cases")?;
-    let mut words = Words::new(text.as_str(), rt.alloc());
-    let n = words.word()?;
-    let geometry = words.list(GEOMETRY)?;
-    let pool = words.list(POOL)?;
-    let numbers = Numbers {
-        geometry: &geometry,
-        pool: &pool,
-    };
+    let alloc = rt.alloc();
+    let file = BufReader::new(alloc, File::open(&rt, "cases")?)?;
+    let mut words = Words::new(file, alloc);
+    let n = words.word();
+    let floats: Vec<f64> = words.list(FLOATS)?;
     let mut differ = 0u64;
     // Counted: each case is read from the words as it comes, and stands in no list.
     for number in 1..=n {
-        if !case_agrees(&mut words, numbers)? {
+        if !case_agrees(&mut words, &floats)? {
             println!(rt; "differs: case {number}")?;
             differ += 1;
         }
@@ -86,5 +82,6 @@ fn main(rt: HostRuntime) -> io::Result<()> {
     if !words.is_at_end() {
         println!(rt; "the file has more cases")?;
     }
-    println!(rt; "{n} recorded answers of the Rust, {differ} differ")
+    println!(rt; "{n} recorded answers of the Rust, {differ} differ")?;
+    words.finish()
 }

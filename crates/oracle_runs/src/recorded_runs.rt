@@ -1,12 +1,12 @@
-// Whole runs on recorded numbers.
-use crate::cases::{Case, Numbers, Places};
+// Whole runs on recorded numbers. A refused call does not move its run, and that shows at the end.
+use crate::cases::{Case, GEOMETRY, Numbers, PLACE_NUMBERS};
 use boundary_assemblers::Run;
 use cell_pairs::DISTANT;
 use plans::{Plan, PlanNumbers};
 use recorded::{EntryVecs, Words};
-use refusals::Refusal;
 use scatter::EntryLists;
-use std::io;
+use std::alloc::AllocError;
+use std::io::Read;
 
 /// A planning that was accepted, and what its pairs are lent.
 #[derive(Clone, Copy)]
@@ -14,53 +14,67 @@ pub struct Planning<'a> {
     pub case: &'a Case,
     pub counts: PlanNumbers,
     pub plan: Plan<'a>,
-    pub places: &'a [Places],
     pub numbers: Numbers<'a>,
 }
 
 impl Planning<'_> {
-    // A whole entries run: the position after it, or the first refusal.
-    fn play_entries(self, lists: &mut EntryLists<'_>) -> Result<u32, Refusal> {
+    // Whether a run has come to the end of the places.
+    fn is_at_end(self, run: Run) -> bool {
+        run.position as usize == self.case.places / PLACE_NUMBERS
+    }
+
+    // A whole entries run.
+    fn play_entries(self, lists: &mut EntryLists<'_>) -> Run {
         let mut run = Run::begin_entries(self.counts);
-        for places in self.places.iter().skip(self.counts.distant as usize) {
-            let lent = self.case.touching(self.numbers, *places);
-            let (next, answer) = run.add_entries(self.plan, lent, lists);
-            answer?;
+        for _ in 0..self.counts.touching {
+            let lent = self.case.touching(self.numbers, run.position);
+            let (next, _) = run.add_entries(self.plan, lent, lists);
             run = next;
         }
-        Ok(run.position)
+        run
+    }
+
+    // The run after the add that the record at its position asks for.
+    fn add(self, run: Run, matrix: &mut [f64]) -> Run {
+        let (run, record) = run.look(self.plan);
+        let Ok(record) = record else {
+            return run;
+        };
+        let (next, _) = if record.pattern == DISTANT {
+            let lent = self.case.distant(self.numbers, run.position);
+            run.add_distant(self.plan, lent, matrix)
+        } else {
+            let lent = self.case.touching(self.numbers, run.position);
+            run.add_touching(self.plan, lent, matrix)
+        };
+        next
     }
 
     // A whole dense run, each pair added as its record asks.
-    fn play_matrix(self, matrix: &mut [f64]) -> Result<u32, Refusal> {
+    fn play_matrix(self, matrix: &mut [f64]) -> Run {
         let mut run = Run::begin(self.counts);
-        for places in self.places {
-            let (same, record) = run.look(self.plan);
-            let (next, answer) = if record?.pattern == DISTANT {
-                let lent = self.case.distant(self.numbers, *places);
-                same.add_distant(self.plan, lent, matrix)
-            } else {
-                let lent = self.case.touching(self.numbers, *places);
-                same.add_touching(self.plan, lent, matrix)
-            };
-            answer?;
-            run = next;
+        for _ in 0..self.case.places / PLACE_NUMBERS {
+            run = self.add(run, matrix);
         }
-        Ok(run.position)
+        run
     }
 
     /// Whether an entries run writes the recorded entries.
-    pub fn entries_agree(self, words: &mut Words<'_>) -> io::Result<bool> {
+    pub fn entries_agree<R: Read>(self, words: &mut Words<R>) -> Result<bool, AllocError> {
         let mut lists = EntryVecs::new(words.alloc, self.case.entries, 0, 0.0)?;
-        let played = self.play_entries(&mut lists.lent());
-        Ok((played == Ok(self.case.pairs)) & lists.are_next(words)?)
+        let run = self.play_entries(&mut lists.lent());
+        Ok(lists.are_next(words) & self.is_at_end(run))
     }
 
-    /// Whether a dense run, from the front of the pool, gives the recorded matrix.
-    pub fn matrix_agrees(self, words: &mut Words<'_>) -> io::Result<bool> {
-        let front = self.numbers.pool.get(..self.case.matrix).unwrap_or(&[]);
-        let mut matrix = Vec::from_slice(words.alloc, front)?;
-        let played = self.play_matrix(&mut matrix);
-        Ok((played == Ok(self.case.pairs)) & words.is_next(&matrix)?)
+    /// Whether a dense run, from the front of the pool, gives the recorded matrix. (From all floats where the pool is shorter.)
+    pub fn matrix_agrees<R: Read>(self, words: &mut Words<R>) -> Result<bool, AllocError> {
+        let floats = self.numbers.floats;
+        let begin = floats
+            .get(GEOMETRY..)
+            .and_then(|pool| pool.get(..self.case.matrix))
+            .unwrap_or(floats);
+        let mut matrix = Vec::from_slice(words.alloc, begin)?;
+        let run = self.play_matrix(&mut matrix);
+        Ok(words.is_next(&matrix) & self.is_at_end(run))
     }
 }

@@ -4,7 +4,7 @@ use function::{Element, Elements};
 use grid::Sizes;
 use integrands::{Integrand, Term};
 use planning::Assembly;
-use std::io;
+use std::io::Read;
 
 /// A term, by its kind, a number as `Term` has it. The factor of one that has it stands further on in the file.
 #[derive(Clone, Copy)]
@@ -14,15 +14,15 @@ enum Form {
 }
 
 impl Form {
-    fn read(words: &mut Words<'_>) -> io::Result<Self> {
+    fn read<R: Read>(words: &mut Words<R>) -> Self {
         // Two digits of the file: the first is 0 for a bare term.
-        let scaled = words.digit()? != 0;
-        let kind = u32::from(words.digit()?);
-        Ok(if scaled {
+        let scaled = words.digit() != 0;
+        let kind = u32::from(words.digit());
+        if scaled {
             Form::Scaled(kind)
         } else {
             Form::Bare(kind)
-        })
+        }
     }
 
     fn term(self, factor: f64) -> Term {
@@ -42,31 +42,31 @@ pub struct Forms {
 }
 
 impl Forms {
-    pub fn read(words: &mut Words<'_>) -> io::Result<Self> {
-        Ok(Forms {
-            terms: u32::from(words.digit()?),
-            first: Form::read(words)?,
-            second: Form::read(words)?,
-        })
+    pub fn read<R: Read>(words: &mut Words<R>) -> Self {
+        Forms {
+            terms: u32::from(words.digit()),
+            first: Form::read(words),
+            second: Form::read(words),
+        }
     }
 
     /// The integrand, whose two factors are the next words.
-    pub fn read_factors(self, words: &mut Words<'_>) -> io::Result<Integrand> {
-        Ok(Integrand {
+    pub fn read_factors<R: Read>(self, words: &mut Words<R>) -> Integrand {
+        Integrand {
             terms: self.terms,
-            first: self.first.term(f64::read(words)?),
-            second: self.second.term(f64::read(words)?),
-        })
+            first: self.first.term(f64::read(words)),
+            second: self.second.term(f64::read(words)),
+        }
     }
 }
 
 /// An element: a, b and c. (Its fields are other than those of `Forms`: nothing is shared but reading a digit.)
-pub fn read_element(words: &mut Words<'_>) -> io::Result<Element> {
-    Ok(Element {
-        a: u32::from(words.digit()?),
-        b: u32::from(words.digit()?),
-        c: u32::from(words.digit()?),
-    })
+pub fn read_element<R: Read>(words: &mut Words<R>) -> Element {
+    Element {
+        a: u32::from(words.digit()),
+        b: u32::from(words.digit()),
+        c: u32::from(words.digit()),
+    }
 }
 
 /// The head of a case: what planning is given, but for the factors of its terms. Digits that each program reads for itself stand before these.
@@ -80,29 +80,29 @@ pub struct Head {
 }
 
 impl Head {
-    pub fn read(words: &mut Words<'_>) -> io::Result<Self> {
+    pub fn read<R: Read>(words: &mut Words<R>) -> Self {
         words.finish_word();
-        Ok(Head {
+        Head {
             sizes: Sizes {
-                cells: u32::read(words)?,
-                vertices: u32::read(words)?,
-                edges: u32::read(words)?,
+                cells: u32::read(words),
+                vertices: u32::read(words),
+                edges: u32::read(words),
             },
-            batch: u32::read(words)?,
-            test: read_element(words)?,
-            trial: read_element(words)?,
-            forms: Forms::read(words)?,
-        })
+            batch: u32::read(words),
+            test: read_element(words),
+            trial: read_element(words),
+            forms: Forms::read(words),
+        }
     }
 
     /// What planning is given besides the mesh: the factors are the next words. A recorded element is that of triangles, and stands for quads too where there
     /// are none.
-    pub fn read_assembly(self, words: &mut Words<'_>) -> io::Result<Assembly> {
-        Ok(Assembly {
+    pub fn read_assembly<R: Read>(self, words: &mut Words<R>) -> Assembly {
+        Assembly {
             test: Elements::from(self.test),
             trial: Elements::from(self.trial),
             batch: self.batch,
-            integrand: self.forms.read_factors(words)?,
-        })
+            integrand: self.forms.read_factors(words),
+        }
     }
 }

@@ -9,6 +9,6 @@ mod words;
 
 pub use floats::{bits_of, finite_of};
 pub use heads::{Forms, Head, read_element};
-pub use planned::{EntryVecs, MeshVecs, PlanLengths, PlanVecs};
+pub use planned::{EntryVecs, MeshVecs, PlanLengths, PlanVecs, front};
 pub use values::Recorded;
 pub use words::Words;

@@ -4,7 +4,7 @@ use grid::{Mesh, Sizes};
 use plans::{Plan, PlanLists};
 use scatter::EntryLists;
 use std::alloc::{AllocError, Global};
-use std::io;
+use std::io::Read;
 
 /// The lengths of a mesh's lists and of those that planning writes. Both sides have as many colours. (Flat, as they stand in the file: side by side, and the
 /// colours once.)
@@ -21,18 +21,29 @@ pub struct PlanLengths {
 
 impl PlanLengths {
     /// The first seven lengths of a case, from the next word on.
-    pub fn read(words: &mut Words<'_>) -> io::Result<Self> {
+    pub fn read<R: Read>(words: &mut Words<R>) -> Self {
         words.finish_word();
-        Ok(PlanLengths {
-            cell_vertices: usize::read(words)?,
-            test_dofs: usize::read(words)?,
-            trial_dofs: usize::read(words)?,
-            colours: usize::read(words)?,
-            test_owners: usize::read(words)?,
-            trial_owners: usize::read(words)?,
-            work: usize::read(words)?,
-        })
+        PlanLengths {
+            cell_vertices: usize::read(words),
+            test_dofs: usize::read(words),
+            trial_dofs: usize::read(words),
+            colours: usize::read(words),
+            test_owners: usize::read(words),
+            trial_owners: usize::read(words),
+            work: usize::read(words),
+        }
     }
+}
+
+/// The first n numbers of a list, or all where they are fewer.
+pub fn front<T>(list: &[T], n: usize) -> &[T] {
+    &list[..n.min(list.len())]
+}
+
+// The same of a list that is written.
+fn room(list: &mut [u32], n: usize) -> &mut [u32] {
+    let end = n.min(list.len());
+    &mut list[..end]
 }
 
 /// A mesh.
@@ -46,7 +57,12 @@ pub struct MeshVecs {
 
 impl MeshVecs {
     /// A mesh of these kinds, whose other two lists are the next ones, each of n numbers.
-    pub fn read(words: &mut Words<'_>, sizes: Sizes, kinds: Vec<u8>, n: usize) -> io::Result<Self> {
+    pub fn read<R: Read>(
+        words: &mut Words<R>,
+        sizes: Sizes,
+        kinds: Vec<u8>,
+        n: usize,
+    ) -> Result<Self, AllocError> {
         Ok(MeshVecs {
             sizes,
             kinds,
@@ -78,39 +94,40 @@ pub struct PlanVecs {
 }
 
 impl PlanVecs {
-    /// Lists of zeros.
-    pub fn new(alloc: Global, lengths: PlanLengths) -> Result<Self, AllocError> {
+    /// Lists of zeros, each as long as it is in any case.
+    pub fn new(alloc: Global, most: PlanLengths) -> Result<Self, AllocError> {
         Ok(PlanVecs {
-            test_dofs: vec![in alloc; 0; lengths.test_dofs]?,
-            trial_dofs: vec![in alloc; 0; lengths.trial_dofs]?,
-            test_colours: vec![in alloc; 0; lengths.colours]?,
-            trial_colours: vec![in alloc; 0; lengths.colours]?,
-            test_owners: vec![in alloc; 0; lengths.test_owners]?,
-            trial_owners: vec![in alloc; 0; lengths.trial_owners]?,
-            work: vec![in alloc; 0; lengths.work]?,
+            test_dofs: vec![in alloc; 0; most.test_dofs]?,
+            trial_dofs: vec![in alloc; 0; most.trial_dofs]?,
+            test_colours: vec![in alloc; 0; most.colours]?,
+            trial_colours: vec![in alloc; 0; most.colours]?,
+            test_owners: vec![in alloc; 0; most.test_owners]?,
+            trial_owners: vec![in alloc; 0; most.trial_owners]?,
+            work: vec![in alloc; 0; most.work]?,
         })
     }
 
-    /// The lists, to be written.
-    pub fn lent(&mut self) -> PlanLists<'_> {
+    /// The fronts of the lists that have these lengths, to be written.
+    pub fn lent(&mut self, lengths: PlanLengths) -> PlanLists<'_> {
         PlanLists {
-            test_dofs: &mut self.test_dofs,
-            trial_dofs: &mut self.trial_dofs,
-            test_colours: &mut self.test_colours,
-            trial_colours: &mut self.trial_colours,
-            test_owners: &mut self.test_owners,
-            trial_owners: &mut self.trial_owners,
-            work: &mut self.work,
+            test_dofs: room(&mut self.test_dofs, lengths.test_dofs),
+            trial_dofs: room(&mut self.trial_dofs, lengths.trial_dofs),
+            test_colours: room(&mut self.test_colours, lengths.colours),
+            trial_colours: room(&mut self.trial_colours, lengths.colours),
+            test_owners: room(&mut self.test_owners, lengths.test_owners),
+            trial_owners: room(&mut self.trial_owners, lengths.trial_owners),
+            work: room(&mut self.work, lengths.work),
         }
     }
 
-    /// The plan for a run on cells of these kinds. (Not by `lent().plan(kinds)`: the plan would borrow from the lent lists, which end with this call.)
-    pub fn plan<'a>(&'a self, kinds: &'a [u8]) -> Plan<'a> {
+    /// The plan in them for a run on cells of these kinds. (Not by `lent(lengths).plan(kinds)`: the plan would borrow from the lent lists, which end with this
+    /// call.)
+    pub fn plan<'a>(&'a self, lengths: PlanLengths, kinds: &'a [u8]) -> Plan<'a> {
         Plan {
             kinds,
-            test_dofs: &self.test_dofs,
-            trial_dofs: &self.trial_dofs,
-            work: &self.work,
+            test_dofs: front(&self.test_dofs, lengths.test_dofs),
+            trial_dofs: front(&self.trial_dofs, lengths.trial_dofs),
+            work: front(&self.work, lengths.work),
         }
     }
 }
@@ -143,11 +160,7 @@ impl EntryVecs {
     }
 
     /// Whether the next lists are these.
-    pub fn are_next(&self, words: &mut Words<'_>) -> io::Result<bool> {
-        Ok(
-            words.is_next(&self.rows)?
-                & words.is_next(&self.columns)?
-                & words.is_next(&self.values)?,
-        )
+    pub fn are_next<R: Read>(&self, words: &mut Words<R>) -> bool {
+        words.is_next(&self.rows) & words.is_next(&self.columns) & words.is_next(&self.values)
     }
 }

@@ -8,10 +8,11 @@
 mod cases;
 mod sparse;
 
-use crate::cases::Case;
+use crate::cases::{Case, MOST, MOST_ENTRIES};
 use recorded::{EntryVecs, PlanVecs, Words};
 use replay::{Calls, Written, replay};
-use std::{fs, io};
+use std::fs::File;
+use std::io::{self, BufReader, Read};
 
 // What stands in the lists before the calls.
 const NUMBER_BEFORE: u32 = 65535;
@@ -19,17 +20,18 @@ const NUMBER_BEFORE: u32 = 65535;
 const VALUE_BEFORE: f64 = 0.5;
 
 // Reads a case whole and plays it.
-fn case_agrees(rt: &HostRuntime, words: &mut Words<'_>) -> io::Result<bool> {
+fn case_agrees<R: Read>(rt: &HostRuntime, words: &mut Words<R>) -> io::Result<bool> {
     let alloc = words.alloc;
     let case = Case::read(words)?;
     let mut matrix = words.list(case.matrix_count)?;
-    let mut lists = PlanVecs::new(alloc, case.lengths)?;
-    let mut entries = EntryVecs::new(alloc, case.entry_count, NUMBER_BEFORE, VALUE_BEFORE)?;
+    let mut lists = PlanVecs::new(alloc, MOST)?;
+    let entry_count = case.entry_count.min(MOST_ENTRIES);
+    let mut entries = EntryVecs::new(alloc, entry_count, NUMBER_BEFORE, VALUE_BEFORE)?;
     let mut answers = vec![in alloc; NUMBER_BEFORE; case.answer_count]?;
     let played = replay(
         case.mesh.mesh(),
         case.assembly,
-        &mut lists.lent(),
+        &mut lists.lent(case.lengths),
         case.entries,
         Calls {
             numbers: &case.calls,
@@ -46,9 +48,9 @@ fn case_agrees(rt: &HostRuntime, words: &mut Words<'_>) -> io::Result<bool> {
         .map_err(|refusal| refusal.number());
     let expected = case.played.map(|position| (position, case.entries));
     let mut agrees = (answer == expected)
-        & words.is_next(&answers)?
-        & words.is_next(&matrix)?
-        & entries.are_next(words)?;
+        & words.is_next(&answers)
+        & words.is_next(&matrix)
+        & entries.are_next(words);
     if let Some(gathering) = case.gathering {
         let (rows, columns) = played.map_or((0, 0), |run| (run.numbers.rows, run.numbers.columns));
         agrees &= gathering.agrees(words, &entries, rows, columns)?;
@@ -60,9 +62,10 @@ fn case_agrees(rt: &HostRuntime, words: &mut Words<'_>) -> io::Result<bool> {
 
 // The file: how many cases, then the cases.
 fn play(rt: &HostRuntime, path: &str) -> io::Result<()> {
-    let text = fs::read_to_string(rt, path)?;
-    let mut words = Words::new(text.as_str(), rt.alloc());
-    let n = words.word()?;
+    let alloc = rt.alloc();
+    let file = BufReader::new(alloc, File::open(rt, path)?)?;
+    let mut words = Words::new(file, alloc);
+    let n = words.word();
     let mut differ = 0u64;
     // Counted: each case is read from the words as it comes, and stands in no list.
     for _ in 0..n {
@@ -73,7 +76,8 @@ fn play(rt: &HostRuntime, path: &str) -> io::Result<()> {
     if !words.is_at_end() {
         println!(rt; "the file has more cases")?;
     }
-    println!(rt; "{n} lists of calls, {differ} differ")
+    println!(rt; "{n} lists of calls, {differ} differ")?;
+    words.finish()
 }
 
 fn main(rt: HostRuntime) -> io::Result<()> {

@@ -2,17 +2,18 @@
 use crate::cases::Gathering;
 use recorded::{EntryVecs, Words};
 use sparse_rows::{RunEntries, SparseLists, sparse_rows};
-use std::io;
+use std::alloc::AllocError;
+use std::io::Read;
 
 impl Gathering {
     /// Reads the three lists, gathers the entries of a matrix of so many rows and columns into them, and compares.
-    pub fn agrees(
+    pub fn agrees<R: Read>(
         self,
-        words: &mut Words<'_>,
+        words: &mut Words<R>,
         entries: &EntryVecs,
         row_count: u32,
         column_count: u32,
-    ) -> io::Result<bool> {
+    ) -> Result<bool, AllocError> {
         let mut starts = words.list(self.starts)?;
         let mut columns = words.list(self.columns)?;
         let mut values = words.list(self.values)?;
@@ -28,10 +29,10 @@ impl Gathering {
         };
         let answer = sparse_rows(lent, row_count, column_count, &mut lists);
         Ok(
-            (answer.map_err(|refusal| refusal.number()) == self.answer)
-                & words.is_next(&starts)?
-                & words.is_next(&columns)?
-                & words.is_next(&values)?,
+            (Some(answer.map_err(|refusal| refusal.number())) == self.answer)
+                & words.is_next(&starts)
+                & words.is_next(&columns)
+                & words.is_next(&values),
         )
     }
 }

@@ -13,7 +13,7 @@ use Rattle.lists.specs.Stores.{sets_all}
 use Rattle.lists.specs.Writes.{Stores, stores_turn, stores_done, Blocks, blocks_room, blocks_turn, blocks_done}
 use Rattle.numbers.specs.Floats.{◌!◌}
 use Rattle.std.proofs.lemmas.List.{length-map}
-use Rattle.lists.specs.Range.{range, length_range, flat_map_below, flat_map_places, map_below, length_blocks}
+use Rattle.lists.specs.Range.{range, length_range, flat_map_below, flat_map_places, map_below, map_places, length_blocks}
 use Rattle.lists.specs.Fold.{upto, upto_keeps, upto_ext, Folded, folded_turn}
 use Rattle.lists.specs.Places.{in_row}
 use Rattle.scatter.specs.Adding.{add_at, add_local, local_rows, local_columns, local_values}
@@ -129,6 +129,16 @@ stored_turn entries j {m} {i} f h e = rw e (rw (zero-add i) at (stores_turn f h)
 pub stored_done : (entries : List Float) (j : ℕ) {i : ℕ} {before after : List Float} → Stores (λ i. entry_at entries (length before) i j) (length before) before after 0 i → length before ≤ i
     → after ≡ map (λ i. entry_at entries (length before) i j) (range (length before))
 stored_done entries j {before = before} f h = stores_done f h ∙ sets_all before _ (length-map (range (length before)) _ ∙ length_range (length before))
+
+-- the same of a list copied
+pub copied_turn : (vs : List ℕ) {n i : ℕ} {before after : List ℕ} → Stores (λ i. get_or vs i 0) n before after 0 i → i < n → {v : ℕ}
+    → v ≡ get_or vs i 0 → Stores (λ i. get_or vs i 0) n before (set after i v) 0 (i + 1)
+copied_turn vs {n} {i} f h e = rw e (rw (zero-add i) at (stores_turn f h))
+
+pub copied_done : (vs : List ℕ) {i : ℕ} {before after : List ℕ} → Stores (λ i. get_or vs i 0) (length before) before after 0 i → length before ≡ length vs
+    → length before ≤ i → after ≡ vs
+copied_done vs {before = before} f e h =
+    stores_done f h ∙ ap (λ n. sets before 0 (map (λ i. get_or vs i 0) (range n))) e ∙ ap (sets before 0) (map_places vs 0) ∙ sets_all before vs (sym e)
 
 -- a turn of each of the three: the block of column j is written over a part of the list
 pub block_turn : {A : Type 0} {f : ℕ → List A} {w n at j k : ℕ} {xs ys zs : List A} → Blocks f w n xs ys at j → ((i : ℕ) → length (f i) ≡ w) → j < n

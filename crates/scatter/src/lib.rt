@@ -52,6 +52,17 @@ fn write_column(values: &mut [f64], entries: &[f64; 100], j: usize)
     }
 }
 
+// The DOFs of a column's rows, one for each place of the list. (A loop, since `copy_from_slice` would have a C host bring memmove besides memcpy and memset; and
+// by number, since after a zip of the two lists nothing would be known of the places.)
+fn write_test_dofs(rows: &mut [u32], test_dofs: &[u32])
+    requires { length rows.old ≡ length test_dofs.now }
+    ensures { rows.new ≡ test_dofs.now }
+{
+    for (i, row) in rows.iter_mut().enumerate() {
+        *row = test_dofs[i];
+    }
+}
+
 impl LocalMatrix<'_> {
     // Adds the local matrix to the matrix: entry (i, j) at row + rows·column.
     pub fn add_to(self, matrix: &mut [f64], rows: usize, columns: usize)
@@ -81,7 +92,7 @@ impl LocalMatrix<'_> {
         let m = self.test_dofs.len();
         for j in 0..self.trial_dofs.len() {
             let place = at + m * j;
-            rows[place..place + m].copy_from_slice(self.test_dofs);
+            write_test_dofs(&mut rows[place..place + m], self.test_dofs);
         }
     }
 

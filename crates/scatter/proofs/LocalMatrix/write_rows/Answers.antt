@@ -9,7 +9,7 @@ pub loop-j-init : goal.loop-j-init
 loop-j-init c = blocks_start _ _ _ _ _
 
 pub loop-j-preserved : goal.loop-j-preserved
-loop-j-preserved c = block_turn c.loop-j.invariant (λ _. refl) c.loop-j-test.true c.requires c.copy_from_slice.ensures.after (omega arith)
+loop-j-preserved c = block_turn c.loop-j.invariant (λ _. refl) c.loop-j-test.true c.requires c.write_test_dofs.ensures (omega arith)
 
 pub returns : goal.returns
 returns c = rows_done _ _ c.loop-j.invariant c.loop-j-test.false
