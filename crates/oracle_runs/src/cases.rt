@@ -1,4 +1,6 @@
 // A case: a mesh with elements, batch size and integrand, and what each pair is lent.
+ghost use Rattle.std.specs.Prelude.{◌<◌, ◌^◌};
+
 use lent_numbers::{DistantNumbers, Side, TouchingNumbers};
 use planning::Assembly;
 use recorded::{Head, MeshVecs, PlanLengths, Recorded, Words};
@@ -75,22 +77,31 @@ struct Touching {
 #[derive(Clone, Copy)]
 pub struct Numbers<'a> {
     pub floats: &'a [f64],
-    pub places: &'a [usize],
+    pub places: &'a [u32],
 }
 
 impl<'a> Numbers<'a> {
-    // Where the lists of the pair at a position begin, zeros where the places end. A touching pair's weights are its test weights.
+    // Number j of the places of the pair at a position; 0 where they end.
+    fn place(self, position: u32, j: usize) -> usize
+        requires { j < 8 }
+        ensures { result < 2 ^ 32 }
+    {
+        match self.places.get(PLACE_NUMBERS * position as usize + j) {
+            Some(&place) => place as usize,
+            None => 0,
+        }
+    }
+
+    // Where the lists of the pair at a position begin. A touching pair's weights are its test weights.
     fn begin(self, position: u32) -> PerList {
-        let first = PLACE_NUMBERS * position as usize;
-        let place = |j| self.places.get(first + j).copied().unwrap_or(0);
         PerList {
-            test_weights: GEOMETRY + place(0),
-            trial_weights: GEOMETRY + place(1),
-            test_table: GEOMETRY + place(2),
-            trial_table: GEOMETRY + place(3),
-            kernel: GEOMETRY + place(4),
-            test_geometry: place(5),
-            trial_geometry: place(6),
+            test_weights: GEOMETRY + self.place(position, 0),
+            trial_weights: GEOMETRY + self.place(position, 1),
+            test_table: GEOMETRY + self.place(position, 2),
+            trial_table: GEOMETRY + self.place(position, 3),
+            kernel: GEOMETRY + self.place(position, 4),
+            test_geometry: self.place(position, 5),
+            trial_geometry: self.place(position, 6),
         }
     }
 
@@ -202,7 +213,7 @@ impl Case {
     }
 
     /// The next places.
-    pub fn read_places<R: Read>(&self, words: &mut Words<R>) -> Result<Vec<usize>, AllocError> {
+    pub fn read_places<R: Read>(&self, words: &mut Words<R>) -> Result<Vec<u32>, AllocError> {
         words.list(self.places.min(MOST_PLACES))
     }
 
