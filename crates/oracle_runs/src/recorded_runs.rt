@@ -23,7 +23,7 @@ impl Planning<'_> {
         run.position as usize == self.case.places / PLACE_NUMBERS
     }
 
-    // A whole entries run.
+    // A whole entries run: as many adds as planning counts, which stand in no list.
     fn play_entries(self, lists: &mut EntryLists<'_>) -> Run {
         let mut run = Run::begin_entries(self.counts);
         for _ in 0..self.counts.touching {
@@ -50,7 +50,7 @@ impl Planning<'_> {
         next
     }
 
-    // A whole dense run, each pair added as its record asks.
+    // A whole dense run, each pair added as its record asks: as many adds as there are records of places.
     fn play_matrix(self, matrix: &mut [f64]) -> Run {
         let mut run = Run::begin(self.counts);
         for _ in 0..self.case.places / PLACE_NUMBERS {

@@ -46,6 +46,7 @@ impl<R: Read> Words<R> {
     /// The next word, whole: what is left of the last one is passed over.
     pub fn word(&mut self) -> u64 {
         self.finish_word();
+        // Of fixed size, as a word of the file is.
         let mut text = [0; WORD_BYTES];
         self.file.read_full(&mut text);
         text[..DIGITS].iter().fold(0u64, |word, byte| {
