@@ -1,4 +1,6 @@
 // The lists of a case: those of its mesh, those that planning writes, and those of an entries run.
+ghost use Rattle.std.specs.Prelude.{◌≡◌, length, min, take};
+
 use crate::{Recorded, Words};
 use grid::{Mesh, Sizes};
 use plans::{Plan, PlanLists};
@@ -36,7 +38,9 @@ impl PlanLengths {
 }
 
 /// The first n numbers of a list, or all where they are fewer.
-pub fn front<T>(list: &[T], n: usize) -> &[T] {
+pub fn front<T>(list: &[T], n: usize) -> &[T]
+    ensures { result.now ≡ take (min n (length list.now)) list.now }
+{
     &list[..n.min(list.len())]
 }
 
