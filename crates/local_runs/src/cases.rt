@@ -67,14 +67,14 @@ impl Case {
                 test_dim,
                 trial_dim,
             },
-            test_weights: words.list(test_weights)?,
-            trial_weights: words.list(trial_weights)?,
-            test_table: words.list(test_table)?,
-            trial_table: words.list(trial_table)?,
-            kernel: words.list(kernel)?,
-            test_geometry: words.list(test_geometry)?,
-            trial_geometry: words.list(trial_geometry)?,
-            entries: words.list(entries)?,
+            test_weights: words.scalars(test_weights)?,
+            trial_weights: words.scalars(trial_weights)?,
+            test_table: words.scalars(test_table)?,
+            trial_table: words.scalars(trial_table)?,
+            kernel: words.scalars(kernel)?,
+            test_geometry: words.scalars(test_geometry)?,
+            trial_geometry: words.scalars(trial_geometry)?,
+            entries: words.scalars(entries)?,
         })
     }
 

@@ -3,7 +3,7 @@ ghost use Rattle.std.specs.Prelude.{◌<◌, ◌^◌};
 
 use lent_numbers::{DistantNumbers, Side, TouchingNumbers};
 use planning::Assembly;
-use recorded::{Head, MeshVecs, PlanLengths, Recorded, Words};
+use recorded::{Head, MeshVecs, PlanLengths, Scalar, Words};
 use std::alloc::AllocError;
 use std::io::Read;
 
@@ -214,7 +214,7 @@ impl Case {
 
     /// The next places.
     pub fn read_places<R: Read>(&self, words: &mut Words<R>) -> Result<Vec<u32>, AllocError> {
-        words.list(self.places.min(MOST_PLACES))
+        words.scalars(self.places.min(MOST_PLACES))
     }
 
     pub fn touching<'a>(&self, numbers: Numbers<'a>, position: u32) -> TouchingNumbers<'a> {

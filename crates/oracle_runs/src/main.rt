@@ -27,14 +27,14 @@ fn planning_agrees<R: Read>(
     floats: &[f64],
 ) -> Result<bool, AllocError> {
     let lengths = case.lengths;
-    let same = words.is_next(&[counts.rows, counts.columns, counts.distant, counts.touching])
-        & words.is_next(front(&lists.test_dofs, lengths.test_dofs))
-        & words.is_next(front(&lists.trial_dofs, lengths.trial_dofs))
-        & words.is_next(front(&lists.test_colours, lengths.colours))
-        & words.is_next(front(&lists.trial_colours, lengths.colours))
-        & words.is_next(front(&lists.test_owners, case.test_owners))
-        & words.is_next(front(&lists.trial_owners, case.trial_owners))
-        & words.is_next(front(&lists.work, lengths.work));
+    let same = words.are_next(&[counts.rows, counts.columns, counts.distant, counts.touching])
+        & words.are_next(front(&lists.test_dofs, lengths.test_dofs))
+        & words.are_next(front(&lists.trial_dofs, lengths.trial_dofs))
+        & words.are_next(front(&lists.test_colours, lengths.colours))
+        & words.are_next(front(&lists.trial_colours, lengths.colours))
+        & words.are_next(front(&lists.test_owners, case.test_owners))
+        & words.are_next(front(&lists.trial_owners, case.trial_owners))
+        & words.are_next(front(&lists.work, lengths.work));
     let places = case.read_places(words)?;
     let planning = Planning {
         case,
@@ -70,7 +70,7 @@ fn main(rt: HostRuntime) -> io::Result<()> {
     let file = BufReader::new(alloc, File::open(&rt, "cases")?)?;
     let mut words = Words::new(file, alloc);
     let n = words.word();
-    let floats: Vec<f64> = words.list(FLOATS)?;
+    let floats: Vec<f64> = words.scalars(FLOATS)?;
     let mut differ = 0u64;
     // Counted: each case is read from the words as it comes, and stands in no list.
     for number in 1..=n {

@@ -75,6 +75,6 @@ impl Planning<'_> {
             .unwrap_or(floats);
         let mut matrix = Vec::from_slice(words.alloc, begin)?;
         let run = self.play_matrix(&mut matrix);
-        Ok(words.is_next(&matrix) & self.is_at_end(run))
+        Ok(words.are_next(&matrix) & self.is_at_end(run))
     }
 }

@@ -1,5 +1,5 @@
 // The head of a recorded case: what planning is given.
-use crate::{Recorded, Words};
+use crate::{Scalar, Words};
 use function::{Element, Elements};
 use grid::Sizes;
 use integrands::{Integrand, Term};

@@ -10,5 +10,5 @@ mod words;
 pub use floats::{bits_of, finite_of};
 pub use heads::{Forms, Head, read_element};
 pub use planned::{EntryVecs, MeshVecs, PlanLengths, PlanVecs, front};
-pub use values::Recorded;
+pub use values::{Recorded, Scalar};
 pub use words::Words;

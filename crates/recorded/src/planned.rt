@@ -1,7 +1,7 @@
 // The lists of a case: those of its mesh, those that planning writes, and those of an entries run.
 ghost use Rattle.std.specs.Prelude.{◌≡◌, length, min, take};
 
-use crate::{Recorded, Words};
+use crate::{Scalar, Words};
 use grid::{Mesh, Sizes};
 use plans::{Plan, PlanLists};
 use scatter::EntryLists;
@@ -70,8 +70,8 @@ impl MeshVecs {
         Ok(MeshVecs {
             sizes,
             kinds,
-            cell_vertices: words.list(n)?,
-            cell_edges: words.list(n)?,
+            cell_vertices: words.scalars(n)?,
+            cell_edges: words.scalars(n)?,
         })
     }
 
@@ -165,6 +165,6 @@ impl EntryVecs {
 
     /// Whether the next lists are these.
     pub fn are_next<R: Read>(&self, words: &mut Words<R>) -> bool {
-        words.is_next(&self.rows) & words.is_next(&self.columns) & words.is_next(&self.values)
+        words.are_next(&self.rows) & words.are_next(&self.columns) & words.are_next(&self.values)
     }
 }

@@ -1,7 +1,7 @@
 // A case: what is played, and what must come of it.
 use function::Elements;
 use planning::Assembly;
-use recorded::{Head, MeshVecs, PlanLengths, Recorded, Words, read_element};
+use recorded::{Head, MeshVecs, PlanLengths, Scalar, Words, read_element};
 use std::alloc::AllocError;
 use std::fmt;
 use std::io::Read;
@@ -95,7 +95,7 @@ impl Case {
         let form = u32::read(words);
         let number = u32::read(words);
         let kinds = usize::read(words);
-        let kinds = words.list(kinds.min(MOST_KINDS))?;
+        let kinds = words.scalars(kinds.min(MOST_KINDS))?;
         let gathering = Gathering {
             starts: starts.min(MOST_STARTS),
             columns: columns.min(MOST_ENTRIES),
@@ -128,8 +128,8 @@ impl Case {
             gathering: (form != 0).then_some(gathering),
             mesh: MeshVecs::read(words, head.sizes, kinds, cell_vertices)?,
             call_count: call_numbers / CALL_NUMBERS,
-            calls: words.list(call_numbers.min(MOST_CALL_NUMBERS))?,
-            pool: words.list(pool.min(MOST_POOL))?,
+            calls: words.scalars(call_numbers.min(MOST_CALL_NUMBERS))?,
+            pool: words.scalars(pool.min(MOST_POOL))?,
         })
     }
 }

@@ -23,7 +23,7 @@ const VALUE_BEFORE: f64 = 0.5;
 fn case_agrees<R: Read>(rt: &HostRuntime, words: &mut Words<R>) -> io::Result<bool> {
     let alloc = words.alloc;
     let case = Case::read(words)?;
-    let mut matrix = words.list(case.matrix_count)?;
+    let mut matrix = words.scalars(case.matrix_count)?;
     let mut lists = PlanVecs::new(alloc, MOST)?;
     let entry_count = case.entry_count.min(MOST_ENTRIES);
     let mut entries = EntryVecs::new(alloc, entry_count, NUMBER_BEFORE, VALUE_BEFORE)?;
@@ -48,8 +48,8 @@ fn case_agrees<R: Read>(rt: &HostRuntime, words: &mut Words<R>) -> io::Result<bo
         .map_err(|refusal| refusal.number());
     let expected = case.played.map(|position| (position, case.entries));
     let mut agrees = (answer == expected)
-        & words.is_next(&answers)
-        & words.is_next(&matrix)
+        & words.are_next(&answers)
+        & words.are_next(&matrix)
         & entries.are_next(words);
     if let Some(gathering) = case.gathering {
         let (rows, columns) = played.map_or((0, 0), |run| (run.numbers.rows, run.numbers.columns));

@@ -14,9 +14,9 @@ impl Gathering {
         row_count: u32,
         column_count: u32,
     ) -> Result<bool, AllocError> {
-        let mut starts = words.list(self.starts)?;
-        let mut columns = words.list(self.columns)?;
-        let mut values = words.list(self.values)?;
+        let mut starts = words.scalars(self.starts)?;
+        let mut columns = words.scalars(self.columns)?;
+        let mut values = words.scalars(self.values)?;
         let lent = RunEntries {
             rows: &entries.rows,
             columns: &entries.columns,
@@ -30,9 +30,9 @@ impl Gathering {
         let answer = sparse_rows(lent, row_count, column_count, &mut lists);
         Ok(
             (Some(answer.map_err(|refusal| refusal.number())) == self.answer)
-                & words.is_next(&starts)
-                & words.is_next(&columns)
-                & words.is_next(&values),
+                & words.are_next(&starts)
+                & words.are_next(&columns)
+                & words.are_next(&values),
         )
     }
 }
