@@ -43,13 +43,13 @@ struct PerList {
 impl PerList {
     fn read<R: Read>(words: &mut Words<R>) -> Self {
         PerList {
-            test_weights: usize::read(words),
-            trial_weights: usize::read(words),
-            test_table: usize::read(words),
-            trial_table: usize::read(words),
-            kernel: usize::read(words),
-            test_geometry: usize::read(words),
-            trial_geometry: usize::read(words),
+            test_weights: usize::next_in(words),
+            trial_weights: usize::next_in(words),
+            test_table: usize::next_in(words),
+            trial_table: usize::next_in(words),
+            kernel: usize::next_in(words),
+            test_geometry: usize::next_in(words),
+            trial_geometry: usize::next_in(words),
         }
     }
 }
@@ -177,11 +177,11 @@ impl Case {
         };
         let assembly = head.read_assembly(words);
         let lengths = PlanLengths::read(words);
-        let places = usize::read(words);
-        let test_owners = usize::read(words);
-        let trial_owners = usize::read(words);
-        let matrix = usize::read(words);
-        let entries = usize::read(words);
+        let places = usize::next_in(words);
+        let test_owners = usize::next_in(words);
+        let trial_owners = usize::next_in(words);
+        let matrix = usize::next_in(words);
+        let entries = usize::next_in(words);
         let distant = Distant {
             test_points,
             trial_points,
@@ -189,11 +189,11 @@ impl Case {
         };
         let touching = Touching {
             points,
-            weights: usize::read(words),
-            test_table: usize::read(words),
-            trial_table: usize::read(words),
-            kernel: usize::read(words),
-            geometry: usize::read(words),
+            weights: usize::next_in(words),
+            test_table: usize::next_in(words),
+            trial_table: usize::next_in(words),
+            kernel: usize::next_in(words),
+            geometry: usize::next_in(words),
         };
         let kinds = vec![in words.alloc; TRIANGLE; head.sizes.cells as usize]?;
         let cell_vertices = lengths.cell_vertices.min(MOST.cell_vertices);

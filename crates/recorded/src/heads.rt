@@ -54,8 +54,8 @@ impl Forms {
     pub fn read_factors<R: Read>(self, words: &mut Words<R>) -> Integrand {
         Integrand {
             terms: self.terms,
-            first: self.first.term(f64::read(words)),
-            second: self.second.term(f64::read(words)),
+            first: self.first.term(f64::next_in(words)),
+            second: self.second.term(f64::next_in(words)),
         }
     }
 }
@@ -84,11 +84,11 @@ impl Head {
         words.finish_word();
         Head {
             sizes: Sizes {
-                cells: u32::read(words),
-                vertices: u32::read(words),
-                edges: u32::read(words),
+                cells: u32::next_in(words),
+                vertices: u32::next_in(words),
+                edges: u32::next_in(words),
             },
-            batch: u32::read(words),
+            batch: u32::next_in(words),
             test: read_element(words),
             trial: read_element(words),
             forms: Forms::read(words),

@@ -26,13 +26,13 @@ impl PlanLengths {
     pub fn read<R: Read>(words: &mut Words<R>) -> Self {
         words.finish_word();
         PlanLengths {
-            cell_vertices: usize::read(words),
-            test_dofs: usize::read(words),
-            trial_dofs: usize::read(words),
-            colours: usize::read(words),
-            test_owners: usize::read(words),
-            trial_owners: usize::read(words),
-            work: usize::read(words),
+            cell_vertices: usize::next_in(words),
+            test_dofs: usize::next_in(words),
+            trial_dofs: usize::next_in(words),
+            colours: usize::next_in(words),
+            test_owners: usize::next_in(words),
+            trial_owners: usize::next_in(words),
+            work: usize::next_in(words),
         }
     }
 }

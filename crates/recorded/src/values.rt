@@ -7,45 +7,45 @@ use std::io::{self, ErrorKind, Read};
 
 /// A value of a list, which any digits give: an integer of four digits, or a whole word.
 pub trait Scalar: PartialEq + Copy + Default {
-    fn read<R: Read>(words: &mut Words<R>) -> Self;
+    fn next_in<R: Read>(words: &mut Words<R>) -> Self;
 
     /// Whether the next value is this one.
-    fn is_next<R: Read>(&self, words: &mut Words<R>) -> bool {
-        Self::read(words) == *self
+    fn is_next_in<R: Read>(&self, words: &mut Words<R>) -> bool {
+        Self::next_in(words) == *self
     }
 }
 
 impl Scalar for u8 {
     /// The last of the four digits: a kind.
-    fn read<R: Read>(words: &mut Words<R>) -> Self {
+    fn next_in<R: Read>(words: &mut Words<R>) -> Self {
         (words.number() % 16) as u8
     }
 }
 
 impl Scalar for u32 {
-    fn read<R: Read>(words: &mut Words<R>) -> Self {
+    fn next_in<R: Read>(words: &mut Words<R>) -> Self {
         u32::from(words.number())
     }
 }
 
 impl Scalar for usize {
-    fn read<R: Read>(words: &mut Words<R>) -> Self {
+    fn next_in<R: Read>(words: &mut Words<R>) -> Self {
         usize::from(words.number())
     }
 }
 
 impl Scalar for u64 {
-    fn read<R: Read>(words: &mut Words<R>) -> Self {
+    fn next_in<R: Read>(words: &mut Words<R>) -> Self {
         words.word()
     }
 }
 
 impl Scalar for f64 {
-    fn read<R: Read>(words: &mut Words<R>) -> Self {
+    fn next_in<R: Read>(words: &mut Words<R>) -> Self {
         finite_of(words.word())
     }
 
-    fn is_next<R: Read>(&self, words: &mut Words<R>) -> bool {
+    fn is_next_in<R: Read>(&self, words: &mut Words<R>) -> bool {
         bits_of(*self) == words.word()
     }
 }
@@ -55,7 +55,7 @@ impl<R: Read> Words<R> {
     pub fn fill<T: Scalar>(&mut self, list: &mut [T]) {
         self.finish_word();
         for x in list {
-            *x = T::read(self);
+            *x = T::next_in(self);
         }
     }
 
@@ -71,7 +71,7 @@ impl<R: Read> Words<R> {
         self.finish_word();
         let mut same = true;
         for x in list {
-            same &= x.is_next(self);
+            same &= x.is_next_in(self);
         }
         same
     }
@@ -96,29 +96,29 @@ impl Recorded for u8 {
 
 impl Recorded for u32 {
     fn read(words: &mut Words<&[u8]>) -> io::Result<Self> {
-        Ok(<u32 as Scalar>::read(words))
+        Ok(u32::next_in(words))
     }
 }
 
 impl Recorded for usize {
     fn read(words: &mut Words<&[u8]>) -> io::Result<Self> {
-        Ok(<usize as Scalar>::read(words))
+        Ok(usize::next_in(words))
     }
 }
 
 impl Recorded for u64 {
     fn read(words: &mut Words<&[u8]>) -> io::Result<Self> {
-        Ok(<u64 as Scalar>::read(words))
+        Ok(u64::next_in(words))
     }
 }
 
 impl Recorded for f64 {
     fn read(words: &mut Words<&[u8]>) -> io::Result<Self> {
-        Ok(<f64 as Scalar>::read(words))
+        Ok(f64::next_in(words))
     }
 
     fn is_next(&self, words: &mut Words<&[u8]>) -> io::Result<bool> {
-        Ok(<f64 as Scalar>::is_next(self, words))
+        Ok(self.is_next_in(words))
     }
 }
 
@@ -132,7 +132,7 @@ impl Words<&[u8]> {
         (0..n).map(|_| T::read(self)).try_collect(alloc)
     }
 
-    /// Whether the next list is this one, all of which is read.
+    /// Whether the next list is this one, all of which is read. (A loop beside that of `are_next`: here a value may be refused, and there none can.)
     pub fn is_next<T: Recorded>(&mut self, list: &[T]) -> io::Result<bool> {
         self.finish_word();
         let mut same = true;
@@ -158,8 +158,8 @@ mod tests {
     impl Recorded for Place {
         fn read(words: &mut Words<&[u8]>) -> io::Result<Self> {
             Ok(Place {
-                kind: <u8 as Recorded>::read(words)?,
-                number: <u32 as Recorded>::read(words)?,
+                kind: u8::read(words)?,
+                number: u32::read(words)?,
             })
         }
     }
